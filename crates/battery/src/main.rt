@@ -1,0 +1,40 @@
+// Runs the cases on standard input against the calls of loadfile, and writes a line for each.
+mod case;
+mod head;
+mod line;
+mod table;
+
+use head::Next;
+
+// Reads and runs the next case, and answers whether to go on.
+fn turn(file: &mut [u8], standing: &mut [u8], table: &mut [u32]) -> bool {
+    match head::read() {
+        Next::End => false,
+        Next::Bad => {
+            line::bad_case();
+            false
+        }
+        Next::Case(head) => {
+            let is_whole = case::finish(head, file, standing, table);
+            if !is_whole {
+                line::bad_case();
+            }
+            is_whole
+        }
+    }
+}
+
+// A proved loop has to end, and nothing says that the input does. So the loop counts its turns down, from more cases than
+// a battery has.
+fn main() {
+    let mut file_room = [0u8; 65_536];
+    let mut standing_room = [0u8; 65_536];
+    let mut table_room = [0u32; 8_192];
+    let file: &mut [u8] = &mut file_room;
+    let standing: &mut [u8] = &mut standing_room;
+    let table: &mut [u32] = &mut table_room;
+    let mut turns: u32 = 1_000_000;
+    while turns > 0 && turn(file, standing, table) {
+        turns -= 1;
+    }
+}

@@ -1,0 +1,98 @@
+-- The name shown for a flow, from the soundness call's verdict: nothing for an unsound file or an absent flow, and otherwise
+-- the flow's own name or the standing list's entry.
+use Prim.Native.Nat.{ℕ, _≤_, _<_}
+use mathlib.Core.List.{List, [], _∷_}
+use mathlib.Core.Path.{_≡_, refl, _∙_}
+use native.Mathlib.Omega.{arith}
+use borrow.Author.Tests.{lt-ltb, le-ltb}
+use lib.ListN.{length}
+use Rattle.load.specs.declared.counts.Counts.{Counts}
+use Rattle.load.specs.declared.refusal.Refusal.{Refusal}
+use Rattle.load.specs.declared.refusal.Verdict.the-variants.{Accepted, Refused}
+use Rattle.load.specs.declared.refusal.Verdict.{Verdict}
+use Rattle.loadfile.specs.declared.record.Walk.the-variants.{At, Stopped}
+use Rattle.loadfile.specs.declared.record.Walk.{Walk}
+use Rattle.loadfile.specs.Answers.{bodyWalk, ownName, verdictOf}
+use Rattle.loadfile.specs.Calls.{contents, entry, nameOf, ownOr, shownName, soundness}
+use Rattle.loadfile.specs.Layout.{Parsed, refused, parsed, Contents, countsIn, flowRecords, headerVerdict, records}
+use Rattle.loadfile.proofs.Body.{body-reads, body-refuses, held}
+use Rattle.loadfile.proofs.Files.{contents-records, contents-refused}
+use Rattle.loadfile.proofs.Names.{own-name}
+
+-- a file that is not sound shows nothing
+pub shown-unsound : (file standing : List ℕ) (flow : ℕ) (r : Refusal) → soundness file ≡ Refused r → shownName file standing flow ≡ []
+unfolding soundness verdictOf shownName nameOf
+shown-unsound file standing flow r e = go (contents file) e where
+  go : (p : Parsed Contents) → verdictOf p ≡ Refused r → nameOf p standing flow ≡ []
+  go (refused q) e = refl
+  go (parsed l at) e = let z : _≡_ {A = ℕ} 0 1 = cc in absurd (omega arith)
+
+-- a sound file has a good header
+pub sound-header : (file : List ℕ) → soundness file ≡ Accepted → headerVerdict file ≡ Accepted
+unfolding soundness verdictOf
+sound-header file e = go (headerVerdict file) refl where
+  go : (v : Verdict) → headerVerdict file ≡ v → v ≡ Accepted
+  go Accepted h = refl
+  go (Refused r) h =
+      let same : contents file ≡ refused r = contents-refused file r h in
+      let z : _≡_ {A = ℕ} 0 1 = cc in
+      absurd (omega arith)
+
+-- what a sound file holds, and the walk over its flow records
+pub record Held (file : List ℕ) : Type 0 where
+  pub load : Contents
+  pub end : ℕ
+  pub from : ℕ
+  pub holds : contents file ≡ parsed load end
+  pub counted : load .counts ≡ countsIn file
+  pub named : flowRecords file (countsIn file .flows) 10 ≡ parsed (load .names) from
+
+pub sound-holds : (file : List ℕ) → soundness file ≡ Accepted → Held file
+unfolding soundness verdictOf
+sound-holds file e = go (bodyWalk (countsIn file) file) refl (contents-records file (countsIn file) refl (sound-header file e)) where
+  go : (w : Walk) → bodyWalk (countsIn file) file ≡ w → contents file ≡ records (countsIn file) file → Held file
+  go (Stopped r) m here =
+      let same : contents file ≡ refused r = here ∙ body-refuses (countsIn file) file r m in
+      let z : _≡_ {A = ℕ} 0 1 = cc in
+      absurd (omega arith)
+  go (At from) m here =
+      let sound = body-reads (countsIn file) file from m in
+      record {
+        load = held (countsIn file) (sound .names) (sound .blocks);
+        end = length file;
+        from = from;
+        holds = here ∙ sound .reads;
+        counted = refl;
+        named = sound .flows-read;
+      }
+
+-- the own name where it has at least one byte
+own-some : (own other : List ℕ) → 0 < length own → ownOr own other ≡ own
+unfolding ownOr
+own-some [] other h = absurd (omega arith)
+own-some (b ∷ bs) other h = refl
+
+own-none : (own other : List ℕ) → length own ≤ 0 → ownOr own other ≡ other
+unfolding ownOr
+own-none [] other h = refl
+own-none (b ∷ bs) other h = absurd (omega arith)
+
+module _ (file standing : List ℕ) (flow : ℕ) (c : Counts) (same : c ≡ countsIn file) (sound : soundness file ≡ Accepted) where
+  pub shown-absent : c .flows ≤ flow → shownName file standing flow ≡ []
+  unfolding shownName nameOf
+  shown-absent h =
+      let l = sound-holds file sound in
+      rw (l .holds, l .counted, le-ltb flow (countsIn file .flows) (rw same at h))
+
+  shown-name : flow < c .flows → shownName file standing flow ≡ ownOr (ownName file flow) (entry standing flow)
+  unfolding shownName nameOf ownName
+  shown-name h =
+      let l = sound-holds file sound in
+      rw (l .holds, l .counted, lt-ltb flow (countsIn file .flows) (rw same at h), own-name file _ 10 _ _ (l .named) flow (rw same at h))
+
+  -- the own name where it has at least one byte, and otherwise the standing list's entry
+  pub shown-own : flow < c .flows → (own : List ℕ) → own ≡ ownName file flow → 0 < length own → shownName file standing flow ≡ own
+  shown-own h own e long = shown-name h ∙ rw (← e) (own-some own _ long)
+
+  pub shown-entry : flow < c .flows → (own : List ℕ) → own ≡ ownName file flow → length own ≤ 0 → shownName file standing flow ≡ entry standing flow
+  shown-entry h own e none = shown-name h ∙ rw (← e) (own-none own _ none)

@@ -1,0 +1,112 @@
+//! The second program: it makes the file of cases for the four calls (soundness, reader, name,
+//! plan) and says, from document 01 alone, what the line of each case must be. Commands: cases,
+//! answers, count, test, fair, bench.
+
+mod answer;
+mod bench;
+mod case;
+mod cases;
+mod cases_block;
+mod cases_bytes;
+mod cases_edge;
+mod cases_flow;
+mod cases_generated;
+mod cases_header;
+mod cases_name;
+mod cases_order;
+mod cases_plan_events;
+mod cases_plan_examples;
+mod cases_plan_faults;
+mod cases_plan_limits;
+mod cases_plan_shapes;
+mod cases_plan_tables;
+mod cases_plan_ticks;
+mod cases_plan_unfair;
+mod cases_standing;
+mod cases_table;
+mod count;
+mod fair;
+mod file;
+mod load_file;
+mod loads;
+mod name;
+mod plan;
+mod plan_case;
+mod plan_check;
+mod plan_load;
+mod planner;
+mod random;
+mod row;
+mod stages;
+mod tests;
+mod tests_plan;
+mod turns;
+mod waiting;
+
+use std::io::{self, BufWriter, Read, Write};
+
+use case::Case;
+
+fn main() {
+    let command = std::env::args().nth(1).unwrap_or_default();
+    let done = match command.as_str() {
+        "cases" => write_cases(),
+        "answers" => write_answers(),
+        "count" => write_count(),
+        "test" => run_tests(),
+        "fair" => check_fairness(),
+        "bench" => write_out(bench::text().as_bytes()),
+        _ => Err("use: second cases | answers | count | test | fair | bench".to_string()),
+    };
+    if let Err(message) = done {
+        eprintln!("second: {}", message);
+        std::process::exit(1);
+    }
+}
+
+/// Everything goes out through one buffer, flushed here so that a write error isn't lost.
+fn write_out(bytes: &[u8]) -> Result<(), String> {
+    let mut out = BufWriter::new(io::stdout());
+    out.write_all(bytes)
+        .and_then(|()| out.flush())
+        .map_err(|error| format!("cannot write: {}", error))
+}
+
+/// The whole case file is read and judged before the first line is written.
+fn read_cases() -> Result<Vec<Case>, String> {
+    let mut bytes = Vec::new();
+    io::stdin()
+        .read_to_end(&mut bytes)
+        .map_err(|error| format!("cannot read: {}", error))?;
+    case::decode(&bytes)
+}
+
+fn write_cases() -> Result<(), String> {
+    let made = cases::all();
+    let all: Vec<&Case> = made.iter().map(|made| &made.case).collect();
+    write_out(&case::encode(&all))
+}
+
+fn write_answers() -> Result<(), String> {
+    let mut lines = String::new();
+    for case in read_cases()? {
+        lines.push_str(&answer::line(&answer::answer(&case)));
+        lines.push('\n');
+    }
+    write_out(lines.as_bytes())
+}
+
+fn write_count() -> Result<(), String> {
+    let text = count::text(&read_cases()?);
+    write_out(text.as_bytes())
+}
+
+fn run_tests() -> Result<(), String> {
+    let done = tests::run()?;
+    write_out(format!("{} tests ok\n", done).as_bytes())
+}
+
+fn check_fairness() -> Result<(), String> {
+    let text = fair::text(&cases::all())?;
+    write_out(text.as_bytes())
+}
