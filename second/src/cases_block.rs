@@ -89,8 +89,8 @@ fn block_count(cases: &mut Cases) {
     }
 }
 
-/// 8: flow numbers from the flow count on, in the first, middle and last block; also 0, 1 and 2
-/// with the bytes exchanged.
+/// 8: flow numbers from the flow count on, in the first, middle and last block; 256 and 512 are 1
+/// and 2 with the bytes exchanged. The flows 0, 1 and 2 are accepted.
 fn flow_numbers(cases: &mut Cases) {
     for stages in [1, 2, 4] {
         let file = three_blocks(stages);

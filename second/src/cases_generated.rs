@@ -2,7 +2,7 @@
 //! records of the right shape, and random bytes behind a good header; for all three calls.
 
 use crate::cases::Cases;
-use crate::load_file::{fit_length_word, LoadFile};
+use crate::load_file::LoadFile;
 use crate::random::Random;
 
 pub fn add(cases: &mut Cases) {
@@ -81,8 +81,7 @@ fn random_bytes(cases: &mut Cases, random: &mut Random) {
         };
         load.left_over.push(byte);
     }
-    let mut bytes = load.bytes();
-    fit_length_word(&mut bytes);
+    let bytes = load.bytes();
     cases.both_open(&bytes, random.below(20) as u32);
     add_name(cases, random, &load, &bytes);
 }

@@ -62,7 +62,7 @@ fn length_word(cases: &mut Cases) {
     }
 }
 
-/// 3: stage counts that don't exist. The counts 1 to 4 are met by many other groups.
+/// 3: stage counts that don't exist; 1 to 4 are accepted.
 fn stage_count(cases: &mut Cases) {
     for stages in [0, 5, 6, 8, 128, 129, 255] {
         cases.both(&ten_bytes().with(|f| f.stages = stages), 1, 3);

@@ -13,6 +13,7 @@ pub fn add(cases: &mut Cases) {
     all_shapes(cases, &mut random);
     middle_loads(cases, &mut random);
     largest_numbers(cases);
+    largest_ticks(cases);
     for load in full_loads() {
         cases.plan(&load.ask(ALL), 0);
     }
@@ -103,6 +104,16 @@ fn largest_numbers(cases: &mut Cases) {
                 }
             }
         }
+    }
+}
+
+/// Ticks that go beyond 32 bits, in the shorter loads only just. There is one flow, which with more
+/// than two stages is held at each turn but its first; in the longest load the held ticks and its
+/// sum of dominant times go beyond 32 bits too.
+fn largest_ticks(cases: &mut Cases) {
+    for (stages, blocks) in [(4, 112), (3, 167), (2, 331), (4, 1_024)] {
+        let load = largest_load(stages, 1, blocks);
+        cases.plan(&load.ask(ALL), 0);
     }
 }
 

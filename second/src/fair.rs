@@ -1,17 +1,17 @@
-//! The command `fair`: goes over the plan cases and checks what plans promise. Whole plans have
-//! to be fair, to keep at most two turns of a flow under way, and to stand the checks of rows;
+//! The command `fair`: goes over the accepted plan cases and checks what plans promise. Whole plans
+//! have to stand the checks of rows, to keep at most two turns of a flow under way and to be fair;
 //! limited plans have to be the beginning of the whole ones.
 
 use crate::answer::planned;
 use crate::case::Call;
 use crate::cases::Made;
 use crate::plan_case::PlanCase;
-use crate::plan_check::{self, require, Checked};
+use crate::plan_check::{self, require, Outcome};
 use crate::plan_load::PlanLoad;
 use crate::row::{self, Row, ROW_WORDS};
 use crate::turns::Turns;
 
-/// Longer loads would take too long.
+/// In longer loads the services aren't compared, since that would take too long.
 const MOST_BLOCKS: usize = 60;
 /// Two flows that wait get services that differ by at most so many times the largest time.
 const MOST_TIMES: u64 = 10;
@@ -37,72 +37,82 @@ impl Ratio {
     }
 }
 
+/// What has been checked so far.
+struct Checked {
+    whole: usize,
+    longer: usize,
+    limited: usize,
+    largest: Ratio,
+}
+
 /// The text of the command, or the case at which a check fails.
 pub fn text(made: &[Made]) -> Result<String, String> {
-    let (mut whole, mut limited) = (0, 0);
-    let mut largest = Ratio {
-        difference: 0,
-        largest_time: 1,
+    let mut checked = Checked {
+        whole: 0,
+        longer: 0,
+        limited: 0,
+        largest: Ratio {
+            difference: 0,
+            largest_time: 1,
+        },
     };
     let plans = made.iter().enumerate();
     for (place, made) in plans.filter(|(_, made)| made.case.call == Call::Plan) {
-        let failed = |what| format!("case {}: {}", place, what);
+        let failed = |what| format!("fair fails at case {}: {}", place, what);
         let case = PlanCase::of(&made.case).map_err(failed)?;
-        match check(&case).map_err(failed)? {
-            Found::Whole(ratio) => {
-                whole += 1;
-                largest = if ratio.above(&largest) {
-                    ratio
-                } else {
-                    largest
-                };
-            }
-            Found::Limited => limited += 1,
-            Found::Nothing => {}
-        }
+        checked.check(&case).map_err(failed)?;
     }
     Ok(format!(
-        "whole loads checked {}\nlimited plans checked {}\nlargest ratio {}\nfair ok\n",
-        whole,
-        limited,
-        largest.text()
+        "loads checked {}\nlonger loads checked without services {}\n\
+         limited plans checked {}\nlargest ratio {}\nfair ok\n",
+        checked.whole,
+        checked.longer,
+        checked.limited,
+        checked.largest.text()
     ))
 }
 
-enum Found {
-    Whole(Ratio),
-    Limited,
-    /// Refused, or too long to be checked.
-    Nothing,
-}
+impl Checked {
+    /// All checks of one case; of a refused one there is nothing to check.
+    fn check(&mut self, case: &PlanCase) -> Outcome {
+        let planned = planned(case);
+        let counts = match planned.result {
+            Ok(counts) => counts,
+            Err(_) => return Ok(()),
+        };
+        let load = PlanLoad::of(case);
+        let listed = case.asked.limit.min(case.asked.blocks) as usize;
+        let rows: Vec<Row> = row::read_all(&planned.rows[..ROW_WORDS * listed]).collect();
+        let records = &planned.records[..load.flows];
+        plan_check::counts(&rows, load.stages, &counts, records)?;
+        if listed < load.blocks.len() {
+            self.limited += 1;
+            return beginning(&load, &rows);
+        }
+        plan_check::rows(&load, &rows)?;
+        let turns = Turns::of(&load, &rows);
+        two_turns(&turns)?;
+        if listed > MOST_BLOCKS {
+            self.longer += 1;
+            return Ok(());
+        }
+        self.whole += 1;
+        self.check_ratio(ratio(&turns))
+    }
 
-/// All checks of one case.
-fn check(case: &PlanCase) -> Result<Found, String> {
-    let planned = planned(case);
-    let counts = match planned.result {
-        Ok(counts) if case.asked.blocks <= MOST_BLOCKS as u64 => counts,
-        _ => return Ok(Found::Nothing),
-    };
-    let load = PlanLoad::of(case);
-    let listed = case.asked.limit.min(case.asked.blocks) as usize;
-    let rows: Vec<Row> = row::read_all(&planned.rows[..ROW_WORDS * listed]).collect();
-    let records = &planned.records[..load.flows];
-    plan_check::counts(&rows, load.stages, &counts, records)?;
-    if listed < load.blocks.len() {
-        return beginning(&load, &rows).map(|()| Found::Limited);
+    fn check_ratio(&mut self, ratio: Ratio) -> Outcome {
+        if ratio.difference > MOST_TIMES * ratio.largest_time {
+            return Err(format!("unfair by {} ticks", ratio.difference));
+        }
+        if ratio.above(&self.largest) {
+            self.largest = ratio;
+        }
+        Ok(())
     }
-    plan_check::rows(&load, &rows)?;
-    let turns = Turns::of(&load, &rows);
-    two_turns(&turns)?;
-    let ratio = ratio(&turns);
-    if ratio.difference > MOST_TIMES * ratio.largest_time {
-        return Err(format!("unfair by {} ticks", ratio.difference));
-    }
-    Ok(Found::Whole(ratio))
 }
 
 /// A limited plan lists the first rows of the whole one.
-fn beginning(load: &PlanLoad, rows: &[Row]) -> Checked {
+fn beginning(load: &PlanLoad, rows: &[Row]) -> Outcome {
     if load.rows()[..rows.len()] != *rows {
         return Err("a limited plan isn't the beginning of the whole one".to_string());
     }
@@ -111,7 +121,7 @@ fn beginning(load: &PlanLoad, rows: &[Row]) -> Checked {
 
 /// At no tick has a flow more than two turns begun and unfinished. The number only grows where a
 /// turn begins, so those ticks are enough.
-fn two_turns(turns: &Turns) -> Checked {
+fn two_turns(turns: &Turns) -> Outcome {
     let last_stage = turns.last_stage();
     for turn in &turns.all {
         let tick = turn.first().spans[0].start;
@@ -150,8 +160,9 @@ fn ratio(turns: &Turns) -> Ratio {
 }
 
 /// The ticks at which something arrives, starts or finishes, in order. Between two of them no
-/// flow begins or ends to wait, and each flow's service grows evenly, by nothing or by one a
-/// tick. So the difference of two services is greatest, and least, at one of these ticks.
+/// flow begins or ends to wait, and a flow's service grows by the same at every tick, by one for
+/// each of its blocks that is at its dominant stage. So the difference of two services is a
+/// straight line between them, and has its highest and lowest values at these ticks.
 fn ticks(turns: &Turns) -> Vec<u64> {
     let mut ticks = Vec::new();
     for row in turns.rows {

@@ -56,7 +56,7 @@ fn main() {
         "test" => run_tests(),
         "fair" => check_fairness(),
         "bench" => write_out(bench::text().as_bytes()),
-        _ => Err("use: second cases | answers | count | test | fair | bench".to_string()),
+        _ => Err("use: second cases [files] | answers | count | test | fair | bench".to_string()),
     };
     if let Err(message) = done {
         eprintln!("second: {}", message);
@@ -81,10 +81,16 @@ fn read_cases() -> Result<Vec<Case>, String> {
     case::decode(&bytes)
 }
 
+/// All cases, or with the word `files` after the command those of the calls on load files.
 fn write_cases() -> Result<(), String> {
+    let files_only = std::env::args().nth(2).as_deref() == Some("files");
     let made = cases::all();
-    let all: Vec<&Case> = made.iter().map(|made| &made.case).collect();
-    write_out(&case::encode(&all))
+    let chosen: Vec<&Case> = made
+        .iter()
+        .map(|made| &made.case)
+        .filter(|case| !files_only || case.call != case::Call::Plan)
+        .collect();
+    write_out(&case::encode(&chosen))
 }
 
 fn write_answers() -> Result<(), String> {

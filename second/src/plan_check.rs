@@ -7,10 +7,10 @@ use crate::plan_load::PlanLoad;
 use crate::row::{FlowRecord, PlanCounts, Row, Span};
 use crate::turns::{Turn, Turns};
 
-/// What a check answers: nothing, or what is wrong.
-pub type Checked = Result<(), String>;
+/// What a check answers: nothing more, or what is wrong.
+pub type Outcome = Result<(), String>;
 
-pub fn require(good: bool, what: &str, row: &Row) -> Checked {
+pub fn require(good: bool, what: &str, row: &Row) -> Outcome {
     if good {
         return Ok(());
     }
@@ -18,7 +18,7 @@ pub fn require(good: bool, what: &str, row: &Row) -> Checked {
 }
 
 /// All checks of rows. The numbering comes first, since the other checks go turn by turn.
-pub fn rows(load: &PlanLoad, rows: &[Row]) -> Checked {
+pub fn rows(load: &PlanLoad, rows: &[Row]) -> Outcome {
     blocks_once(load, rows)?;
     dominant_stages(load, rows)?;
     stages(load, rows)?;
@@ -34,7 +34,7 @@ pub fn rows(load: &PlanLoad, rows: &[Row]) -> Checked {
 }
 
 /// Every block has one row, with its own flow, and those of a flow stand in the table's order.
-fn blocks_once(load: &PlanLoad, rows: &[Row]) -> Checked {
+fn blocks_once(load: &PlanLoad, rows: &[Row]) -> Outcome {
     let mut last_of_flow = vec![None; load.flows];
     let mut seen = HashSet::new();
     for row in rows {
@@ -53,7 +53,7 @@ fn blocks_once(load: &PlanLoad, rows: &[Row]) -> Checked {
 }
 
 /// The dominant stage has the largest time, and no stage before it has the same.
-fn dominant_stages(load: &PlanLoad, rows: &[Row]) -> Checked {
+fn dominant_stages(load: &PlanLoad, rows: &[Row]) -> Outcome {
     for row in rows {
         let times = &load.blocks[row.block as usize].times;
         let largest = times.iter().max();
@@ -66,7 +66,7 @@ fn dominant_stages(load: &PlanLoad, rows: &[Row]) -> Checked {
 
 /// Finish is start plus time; a later stage starts at the greater of two finishes; stage 1 is free
 /// at each start; stages that the load lacks have zeros.
-fn stages(load: &PlanLoad, rows: &[Row]) -> Checked {
+fn stages(load: &PlanLoad, rows: &[Row]) -> Outcome {
     let mut before = [Span::default(); 4];
     for row in rows {
         let block = &load.blocks[row.block as usize];
@@ -88,7 +88,7 @@ fn stages(load: &PlanLoad, rows: &[Row]) -> Checked {
 }
 
 /// Turns and rounds go from 1 without gaps. A turn is of one flow and one round.
-fn numbering(rows: &[Row]) -> Checked {
+fn numbering(rows: &[Row]) -> Outcome {
     let mut before: Option<&Row> = None;
     for row in rows {
         let (round, turn) = before.map_or((0, 0), |before| (before.round, before.turn));
@@ -106,7 +106,7 @@ fn numbering(rows: &[Row]) -> Checked {
 
 /// A turn's first block starts at the ready tick, or when the first block of the flow's previous
 /// turn starts at the last stage, if that is later; the difference is the hold.
-fn first_start(turns: &Turns, turn: &Turn) -> Checked {
+fn first_start(turns: &Turns, turn: &Turn) -> Outcome {
     let first = turn.first();
     let previous = turns.previous(turn);
     let last_stage = turns.last_stage();
@@ -118,7 +118,7 @@ fn first_start(turns: &Turns, turn: &Turn) -> Checked {
 }
 
 /// Every other block starts when the one before it finishes at stage 1, and isn't held.
-fn further_starts(turns: &Turns, turn: &Turn) -> Checked {
+fn further_starts(turns: &Turns, turn: &Turn) -> Outcome {
     for pair in turn.rows.windows(2) {
         let (before, row) = (&pair[0], &pair[1]);
         let start = row.spans[0].start;
@@ -131,7 +131,7 @@ fn further_starts(turns: &Turns, turn: &Turn) -> Checked {
 
 /// The first balance is the credit minus the flow's excess, each further one is less by a dominant
 /// time, none is below 0, and a turn ends only below 0 or for want of a block.
-fn balances(turns: &Turns, turn: &Turn) -> Checked {
+fn balances(turns: &Turns, turn: &Turn) -> Outcome {
     let first = turn.first();
     let excess = turns.previous(turn).map_or(0, |turn| turn.excess());
     let balance = turns.credit(turn.round()) - excess;
@@ -147,7 +147,7 @@ fn balances(turns: &Turns, turn: &Turn) -> Checked {
 }
 
 /// A round gives a turn to each flow that waits when it opens, and to no other.
-fn round_lengths(turns: &Turns) -> Checked {
+fn round_lengths(turns: &Turns) -> Outcome {
     let rounds = turns.rows.last().map_or(0, |row| row.round);
     for round in 1..=rounds {
         let flows: Vec<u64> = turns.of_round(round).map(|turn| turn.flow()).collect();
@@ -165,7 +165,7 @@ fn round_lengths(turns: &Turns) -> Checked {
 
 /// Turns come in the order in which the flows joined the list: by tick, at one tick first those
 /// whose blocks arrive, in the order of the blocks, and then those whose turns end.
-fn order_of_joining(turns: &Turns) -> Checked {
+fn order_of_joining(turns: &Turns) -> Outcome {
     let mut before = (0, 0, 0);
     for (place, turn) in turns.all.iter().enumerate() {
         let first = turn.first();
@@ -180,7 +180,7 @@ fn order_of_joining(turns: &Turns) -> Checked {
 }
 
 /// The counts and the records say what the rows say.
-pub fn counts(rows: &[Row], stages: usize, counts: &PlanCounts, records: &[FlowRecord]) -> Checked {
+pub fn counts(rows: &[Row], stages: usize, counts: &PlanCounts, records: &[FlowRecord]) -> Outcome {
     let distinct = |number: fn(&Row) -> u64| {
         let numbers: HashSet<u64> = rows.iter().map(number).collect();
         numbers.len() as u64

@@ -22,12 +22,11 @@ impl Stages {
     pub fn pass(&mut self, block: &Block, start: u64) -> [Span; MOST_STAGES] {
         let mut spans = [Span::default(); MOST_STAGES];
         let mut ready = start;
-        for stage in 0..self.count {
-            let start = ready.max(self.free_from[stage]);
-            let finish = start + u64::from(block.times[stage]);
-            spans[stage] = Span { start, finish };
-            self.free_from[stage] = finish;
-            ready = finish;
+        for (stage, span) in spans.iter_mut().enumerate().take(self.count) {
+            span.start = ready.max(self.free_from[stage]);
+            span.finish = span.start + u64::from(block.times[stage]);
+            self.free_from[stage] = span.finish;
+            ready = span.finish;
         }
         spans
     }
