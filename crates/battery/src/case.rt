@@ -2,6 +2,7 @@
 use crate::head::Call;
 use crate::head::Head;
 use crate::line;
+use crate::planned;
 use crate::table;
 use libc::STDIN_FILENO;
 use load::refusal::Verdict;
@@ -47,8 +48,15 @@ fn name<'a>(file: &'a [u8], standing: &'a [u8], flow: usize) {
     line::end(&mut out, at);
 }
 
-// Makes the case's call, with a table of just the words that it asks for. It answers false where there are fewer.
-fn run<'a>(call: Call, file: &'a [u8], standing: &'a [u8], table: &mut [u32]) -> bool {
+// Makes the case's call, with tables of just the words that it asks for. It answers false where there are fewer.
+fn run<'a>(
+    call: Call,
+    file: &'a [u8],
+    standing: &'a [u8],
+    table: &mut [u32],
+    flows: &mut [u64],
+    rows: &mut [u64],
+) -> bool {
     match call {
         Call::Sound => sound(file),
         Call::Read(words) => {
@@ -58,6 +66,7 @@ fn run<'a>(call: Call, file: &'a [u8], standing: &'a [u8], table: &mut [u32]) ->
             reader(file, &mut table[0..words]);
         }
         Call::Name(flow) => name(file, standing, flow),
+        Call::Plan => return planned::run(standing, file, table, flows, rows),
     }
     true
 }
@@ -66,19 +75,33 @@ fn fill(part: &mut [u8]) -> bool {
     io::read_full(STDIN_FILENO, part) == part.len()
 }
 
-fn fill_and_run(call: Call, file: &mut [u8], standing: &mut [u8], table: &mut [u32]) -> bool {
+fn fill_and_run(
+    call: Call,
+    file: &mut [u8],
+    standing: &mut [u8],
+    table: &mut [u32],
+    flows: &mut [u64],
+    rows: &mut [u64],
+) -> bool {
     if !fill(standing) {
         return false;
     }
     if !fill(file) {
         return false;
     }
-    run(call, file, standing, table)
+    run(call, file, standing, table, flows, rows)
 }
 
 // Reads what follows the head, and runs the case on parts of just the lengths that the head gives. It answers false where
-// the case is malformed: a part is longer than the room for it, or the input ends inside.
-pub fn finish(head: Head, file: &mut [u8], standing: &mut [u8], table: &mut [u32]) -> bool {
+// the case is malformed: a part is longer than the room for it, the input ends inside, or a plan's parameters are wrong.
+pub fn finish(
+    head: Head,
+    file: &mut [u8],
+    standing: &mut [u8],
+    table: &mut [u32],
+    flows: &mut [u64],
+    rows: &mut [u64],
+) -> bool {
     let call = head.call;
     let file_end = head.file;
     let standing_end = head.standing;
@@ -93,5 +116,7 @@ pub fn finish(head: Head, file: &mut [u8], standing: &mut [u8], table: &mut [u32
         &mut file[0..file_end],
         &mut standing[0..standing_end],
         table,
+        flows,
+        rows,
     )
 }

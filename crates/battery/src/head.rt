@@ -8,6 +8,7 @@ pub enum Call {
     Read(usize),
     // The flow's number.
     Name(usize),
+    Plan,
 }
 
 pub struct Head {
@@ -30,7 +31,9 @@ fn wide(byte: u8) -> usize
 }
 
 // The big-endian number of four bytes.
-fn four(a: u8, b: u8, c: u8, d: u8) -> usize {
+pub fn four(a: u8, b: u8, c: u8, d: u8) -> usize
+    ensures { λ r. ⌜ r < 4294967296 ⌝ }
+{
     ((wide(a) * 256 + wide(b)) * 256 + wide(c)) * 256 + wide(d)
 }
 
@@ -42,6 +45,7 @@ fn parse(bytes: [u8; 13]) -> Next {
         1 => Call::Sound,
         2 => Call::Read(number),
         3 => Call::Name(number),
+        4 => Call::Plan,
         _ => return Next::Bad,
     };
     Next::Case(Head {

@@ -3,17 +3,17 @@ ghost use Prim.Native.Nat.{_≤_};
 use libc::STDOUT_FILENO;
 
 // Longer than any line that a case has.
-pub type Line = [u8; 1024];
+pub type Line = [u8; 4096];
 
 pub fn empty() -> Line {
-    [0; 1024]
+    [0; 4096]
 }
 
 // Puts a byte. A full array is written out first, so that no byte is lost.
 fn put(out: &mut Line, at: usize, byte: u8) -> usize
-    ensures { λ r. ⌜ r ≤ 1024 ⌝ }
+    ensures { λ r. ⌜ r ≤ 4096 ⌝ }
 {
-    if at < 1024 {
+    if at < 4096 {
         out[at] = byte;
         return at + 1;
     }

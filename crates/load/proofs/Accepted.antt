@@ -1,11 +1,16 @@
 -- What an accepted test says of the numbers tested.
-use Prim.Native.Nat.{_≤_}
-use mathlib.Core.Path.{_≡_}
-use borrow.Author.Tests.{ltb-false}
+use Prim.Native.Nat.{ℕ, zero, suc, _≤_, _<_}
+use mathlib.Core.Bool.{Bool, true, false, true≢false, cond}
+use mathlib.Core.Path.{_≡_, refl, sym, _∙_}
+use native.Mathlib.Omega.{arith}
+use borrow.Author.Tests.{ltb-false, ltb-true, not-false}
+use lib.Dec.{ltb}
+use Rattle.load.specs.declared.block.Block.{Block}
 use Rattle.load.specs.declared.counts.Counts.{Counts}
 use Rattle.load.specs.declared.refusal.Verdict.the-variants as verdict
-use Rattle.load.specs.Tests.{countsVerdict}
-use Rattle.load.proofs.Cases.{given-accepted, or-false}
+use Rattle.load.specs.Dominant.{dominantTime}
+use Rattle.load.specs.Tests.{allZero, blockVerdict, countsVerdict, overLimit, timeOver}
+use Rattle.load.proofs.Cases.{by-tests, given-accepted, or-false}
 
 pub record CountsWithin (c : Counts) : Type 0 where
   pub some-stage : 1 ≤ c .stages
@@ -25,4 +30,56 @@ counts-within c e =
       stages-within = ltb-false 4 (c .stages) (s .1);
       flows-within = ltb-false 64 (c .flows) (m .0);
       blocks-within = ltb-false 1024 (c .blocks) (m .1);
+    }
+
+-- a block below one that arrives at `above` (0 for the first)
+pub record BlockWithinLimits (c : Counts) (above : ℕ) (b : Block) : Type 0 where
+  pub flow : b .flow < c .flows
+  pub arrival : b .arrival ≤ 1_000_000_000
+  pub time1 : b .time1 ≤ 10_000_000
+  pub time2 : b .time2 ≤ 10_000_000
+  pub time3 : b .time3 ≤ 10_000_000
+  pub time4 : b .time4 ≤ 10_000_000
+  pub some-time : 0 < dominantTime b
+  pub order : above ≤ b .arrival
+
+-- a time is within the limit also at a stage that the load lacks, where it is 0
+time-within : (stages stage time : ℕ) → timeOver stages stage time ≡ false → time ≤ 10_000_000
+unfolding timeOver
+time-within stages stage time e = go (ltb stages stage) e where
+  go : (lacks : Bool) → cond lacks (ltb 0 time) (ltb 10_000_000 time) ≡ false → time ≤ 10_000_000
+  go true e = omega (arith, ltb-false 0 time e)
+  go false e = ltb-false 10_000_000 time e
+
+-- with a dominant time of 0 every time would be 0
+some-time : (b : Block) → allZero b ≡ false → 0 < dominantTime b
+unfolding allZero dominantTime
+some-time b e = go (dominantTime b) refl where
+  go : (most : ℕ) → dominantTime b ≡ most → 0 < most
+  go zero none =
+      let times : (b .time1 ≡ 0) × (b .time2 ≡ 0) × (b .time3 ≡ 0) × (b .time4 ≡ 0) = omega arith in
+      let all : allZero b ≡ true = search by-tests in
+      absurd (true≢false (sym all ∙ e))
+  go (suc n) some = omega arith
+
+pub block-within-limits : (c : Counts) (above : ℕ) (b : Block) → blockVerdict c above b ≡ verdict.Accepted → BlockWithinLimits c above b
+unfolding blockVerdict overLimit
+block-within-limits c above b e =
+    let flow = given-accepted _ _ _ e in
+    let limits = given-accepted _ _ _ (flow .1) in
+    let times = given-accepted _ _ _ (limits .1) in
+    let order = given-accepted _ _ _ (times .1) in
+    let to4 = or-false _ _ (limits .0) in
+    let to3 = or-false _ _ (to4 .0) in
+    let to2 = or-false _ _ (to3 .0) in
+    let to1 = or-false _ _ (to2 .0) in
+    record {
+      flow = ltb-true (b .flow) (c .flows) (not-false _ (flow .0));
+      arrival = ltb-false 1_000_000_000 (b .arrival) (to1 .0);
+      time1 = time-within _ _ _ (to1 .1);
+      time2 = time-within _ _ _ (to2 .1);
+      time3 = time-within _ _ _ (to3 .1);
+      time4 = time-within _ _ _ (to4 .1);
+      some-time = some-time b (times .0);
+      order = ltb-false (b .arrival) above (order .0);
     }

@@ -4,10 +4,10 @@ use Rattle.battery.proofs.main.Statement.{statement}
 use Rattle.battery.proofs.main.Tie as tie
 
 abbrev Inv-loop : tie.InvT-loop
-Inv-loop file₀ standing₀ table₀ turns₀ file standing table turns = Unit {0}
+Inv-loop file₀ standing₀ table₀ flows₀ rows₀ turns₀ file standing table flows rows turns = Unit {0}
 
 abbrev μ-loop : tie.MeasureT-loop
-μ-loop file₀ standing₀ table₀ turns₀ file standing table turns = turns
+μ-loop file₀ standing₀ table₀ flows₀ rows₀ turns₀ file standing table flows rows turns = turns
 
 pub main-spec : {M : Type 1} → statement M
 main-spec =
@@ -18,10 +18,12 @@ main-spec =
     (λ c. search needs)
     (λ c. search needs)
     (λ c. search needs)
-    (λ c. tt)
-    (λ c κs. tt)
     (λ c. search needs)
     (λ c. search needs)
     (λ c. tt)
+    (λ c κs. search needs)
+    (λ c. search needs)
+    (λ c. search needs)
+    (λ c. search needs)
     (λ c. tt)
-    (λ c. tt))
+    (λ c. search needs))

@@ -1,0 +1,130 @@
+// The plan call's case: its parameters, the tables that it lends, and its line.
+ghost use Prim.Native.Nat.{_+_, _*_, _<_, _≤_};
+ghost use lib.ListN.{length};
+use crate::head;
+use crate::line;
+use crate::words;
+use load::counts::Counts;
+use load::refusal::Verdict;
+use mr3::Planned;
+
+struct Parameters {
+    limit: u64,
+    counts: Counts,
+    // The words of the flow table and of the row table that are lent.
+    flow_words: usize,
+    row_words: usize,
+}
+
+// The big-endian number of the four bytes from a place on.
+fn four(bytes: &[u8], at: usize) -> usize
+    requires { ⌜ at + 4 ≤ length (now bytes) ⌝ }
+    ensures { λ r. ⌜ r < 4294967296 ⌝ }
+{
+    head::four(bytes[at], bytes[at + 1], bytes[at + 2], bytes[at + 3])
+}
+
+fn eight(bytes: &[u8], at: usize) -> usize
+    requires { ⌜ at + 8 ≤ length (now bytes) ⌝ }
+{
+    four(bytes, at) * 4_294_967_296 + four(bytes, at + 4)
+}
+
+fn read_parameters(bytes: &[u8]) -> Parameters
+    requires { ⌜ 40 ≤ length (now bytes) ⌝ }
+{
+    let counts = Counts {
+        stages: eight(bytes, 8),
+        flows: eight(bytes, 16),
+        blocks: eight(bytes, 24),
+    };
+    Parameters {
+        limit: eight(bytes, 0) as u64,
+        counts,
+        flow_words: 3 * four(bytes, 32),
+        row_words: four(bytes, 36),
+    }
+}
+
+// Takes the block table from the case's bytes, four for each word.
+fn fill(table: &mut [u32], bytes: &[u8])
+    requires { ⌜ 4 * length (now table) ≤ length (now bytes) ⌝ }
+{
+    for i in 0..table.len() {
+        table[i] = four(bytes, 4 * i) as u32;
+    }
+}
+
+fn put_planned(out: &mut line::Line, planned: Planned) -> usize {
+    match planned {
+        Planned::Refused(why) => {
+            let at = line::text(out, 0, b"plan ");
+            let at = line::decimal(out, at, load::refusal::number(Verdict::Refused(why)));
+            line::text(out, at, b" 0 0 0 0 0 0")
+        }
+        Planned::Plan(summary) => {
+            let at = line::text(out, 0, b"plan 0");
+            let at = line::spaced(out, at, summary.blocks);
+            let at = line::spaced(out, at, summary.turns);
+            let at = line::spaced(out, at, summary.rounds);
+            let at = line::spaced(out, at, summary.held);
+            let at = line::spaced(out, at, summary.ticks);
+            line::spaced(out, at, summary.end)
+        }
+    }
+}
+
+fn plan(counts: Counts, limit: u64, table: &[u32], flows: &mut [u64], rows: &mut [u64]) {
+    words::mark(flows, 5_000_000_000);
+    words::mark(rows, 6_000_000_000);
+    let planned = mr3::plan(counts, limit, table, flows, rows);
+    let mut out = line::empty();
+    let at = put_planned(&mut out, planned);
+    let at = words::put(&mut out, at, flows);
+    let at = words::put(&mut out, at, rows);
+    line::end(&mut out, at);
+}
+
+// Lends just the words that the parameters give. It answers false where there are fewer.
+fn lend(given: Parameters, table: &[u32], flows: &mut [u64], rows: &mut [u64]) -> bool {
+    let counts = given.counts;
+    let flow_words = given.flow_words;
+    let row_words = given.row_words;
+    if flows.len() < flow_words {
+        return false;
+    }
+    if rows.len() < row_words {
+        return false;
+    }
+    plan(
+        counts,
+        given.limit,
+        table,
+        &mut flows[0..flow_words],
+        &mut rows[0..row_words],
+    );
+    true
+}
+
+// Runs the case. It answers false where the parameters aren't 40 bytes, the block table isn't whole words, or there is no
+// room for a table.
+pub fn run(
+    given: &[u8],
+    blocks: &[u8],
+    table: &mut [u32],
+    flows: &mut [u64],
+    rows: &mut [u64],
+) -> bool {
+    if given.len() != 40 {
+        return false;
+    }
+    let block_words = blocks.len() / 4;
+    if blocks.len() % 4 != 0 {
+        return false;
+    }
+    if table.len() < block_words {
+        return false;
+    }
+    fill(&mut table[0..block_words], blocks);
+    lend(read_parameters(given), &table[0..block_words], flows, rows)
+}

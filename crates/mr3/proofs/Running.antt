@@ -1,0 +1,174 @@
+-- The loop over starts: what holds when some rows have been written and counted, that one more start keeps it, and what it gives
+-- at the end.
+use Prim.Native.Nat.{ℕ, zero, suc, _+_, _-_, _*_, _≤_, _<_}
+use mathlib.Core.List.{List, [], _∷_, _++_, append-assoc, append-nil}
+use mathlib.Core.Option.{none, some}
+use mathlib.Core.Path.{_≡_, refl, sym, ap, _∙_}
+use native.Mathlib.Nat.{add-zero}
+use native.Mathlib.Numerals.{sub-one}
+use native.Mathlib.Omega.{arith}
+use lib.Dec.{ltb}
+use lib.ListN.{length, take, drop, take-append-drop}
+use lib.Seq.{drop-drop, getD-drop}
+use Rattle.load.proofs.Parts.{drop-over, length-over, over, take-over}
+use Rattle.mr3.specs.declared.Summary.{Summary}
+use Rattle.mr3.specs.declared.row.Row.{Row}
+use Rattle.mr3.specs.Counts as counts
+use Rattle.mr3.specs.Counts.{counted, Filled, recorded, records, summary}
+use Rattle.mr3.specs.Load.{Load}
+use Rattle.mr3.specs.Plan.{origin, rowsFrom, run, Started, State, step}
+use Rattle.mr3.specs.Rows.{rowsWords, rowWords, wayWords}
+use Rattle.mr3.specs.Within.{Accepted, latest, RecordWithin, RowWithin, StateWithin, SummaryWithin, TableWithin}
+use Rattle.mr3.proofs.Blocks.{dominant-within}
+use Rattle.mr3.proofs.Bounds.{origin-within, step-within}
+use Rattle.mr3.proofs.Tallying.{length-recorded, one-most, recorded-within}
+
+run-none : (L : Load) (left : ℕ) (s : State) → left ≤ 0 → run L left s ≡ []
+unfolding run
+run-none L zero s h = refl
+run-none L (suc k) s h = absurd (omega arith)
+
+run-ends : (L : Load) (left : ℕ) (s : State) → step L s ≡ none → run L left s ≡ []
+unfolding run rowsFrom
+run-ends L zero s e = refl
+run-ends L (suc k) s e = rw e
+
+run-next : (L : Load) (left : ℕ) (s : State) (q : Started) → 0 < left → step L s ≡ some q → run L left s ≡ q .row ∷ run L (left - 1) (q .then)
+unfolding run rowsFrom
+run-next L zero s q h e = absurd (omega arith)
+run-next L (suc k) s q h e = rw (sub-one, e)
+
+pub row-long : (r : Row) → length (rowWords r) ≡ 15
+unfolding rowWords wayWords
+row-long r = refl
+
+module _ (L : Load) (all : List Row) (flows₀ rows₀ : List ℕ) (listed : ℕ) where
+  pub record Running (s : State) (sum : Summary) (flows rows : List ℕ) (at left : ℕ) : Type 0 where
+    pub starts : ℕ
+    pub place : starts + left ≡ listed
+    pub at-place : at ≡ 15 * starts
+    pub within : StateWithin L starts s
+    pub long : length rows ≡ length rows₀
+    pub kept : drop at rows ≡ drop at rows₀
+    pub words : rowsWords all ≡ take at rows ++ rowsWords (run L left s)
+    pub many : 15 * length all ≡ at + 15 * length (run L left s)
+    pub wide : length flows ≡ length flows₀
+    pub table : TableWithin (L .counts .flows) starts flows
+    pub noted : records (L .table) 0 flows₀ all ≡ records (L .table) (sum .turns) flows (run L left s)
+    pub counts : summary (L .counts .stages) counts.none all ≡ summary (L .counts .stages) sum (run L left s)
+    pub few-blocks : sum .blocks ≤ starts
+    pub few-held : sum .held ≤ starts
+    pub few-ticks : sum .ticks ≤ 100_000_000_000 * starts
+
+  -- before the first start
+  pub running-first : (s : State) → all ≡ run L listed s → StateWithin L 0 s → TableWithin (L .counts .flows) 0 flows₀ → Running s counts.none flows₀ rows₀ 0 listed
+  unfolding counts.none
+  running-first s e within table = record {
+    starts = 0;
+    place = omega arith;
+    at-place = omega arith;
+    within = within;
+    long = refl;
+    kept = refl;
+    words = ap rowsWords e;
+    many = omega (arith, ap length e);
+    wide = refl;
+    table = table;
+    noted = ap (records (L .table) 0 flows₀) e;
+    counts = ap (summary (L .counts .stages) counts.none) e;
+    few-blocks = omega arith;
+    few-held = omega arith;
+    few-ticks = omega arith;
+  }
+
+  module _ (s : State) (sum : Summary) (flows rows : List ℕ) (at left : ℕ) (r : Running s sum flows rows at left) where
+    -- nothing is left to start
+    ends : run L left s ≡ [] → Filled L all flows₀ rows₀ sum flows rows
+    unfolding summary records rowsWords
+    ends e =
+        let words : rowsWords all ≡ take at rows = r .words ∙ ap (λ (rs : List Row). take at rows ++ rowsWords rs) e ∙ append-nil (take at rows) in
+        let none-left : length (run L left s) ≡ 0 = ap length e in
+        let many : 15 * length all ≡ at = omega (arith, r .many) in
+        record {
+          counts = sym (r .counts ∙ ap (summary (L .counts .stages) sum) e);
+          noted = sym (r .noted ∙ ap (records (L .table) (sum .turns) flows) e);
+          written = rw (words, many, ← (r .kept)) (sym (take-append-drop at rows));
+        }
+
+    pub running-done : left ≤ 0 → Filled L all flows₀ rows₀ sum flows rows
+    running-done h = ends (run-none L left s h)
+
+    pub running-stops : step L s ≡ none → Filled L all flows₀ rows₀ sum flows rows
+    running-stops e = ends (run-ends L left s e)
+
+    -- a row that is written has room, in the tables and in the counts
+    pub row-room : 0 < left → 15 * listed ≤ length rows₀ → at + 15 ≤ length rows
+    row-room h room = omega (arith, r .place, r .at-place, r .long)
+
+    module _ (ok : Accepted L) (few : listed ≤ 1024) (room : 15 * listed ≤ length rows₀) (space : 3 * L .counts .flows ≤ length flows₀)
+        (h : 0 < left) (q : Started) (starts : step L s ≡ some q) where
+      bounds : StateWithin L (r .starts + 1) (q .then) × RowWithin L (r .starts) (q .row)
+      bounds = step-within L ok (r .starts) s q (r .within) starts
+
+      pub row-within : RowWithin L (r .starts) (q .row)
+      row-within = bounds .1
+
+      pub record-within : RecordWithin (drop (3 * q .row .flow) flows)
+      record-within =
+          let each = r .table .each (q .row .flow) (bounds .1 .flow) in
+          let f = 3 * q .row .flow in
+          record {
+            blocks = rw (getD-drop, add-zero) (omega (arith, each .0, r .place));
+            turns = rw getD-drop (omega (arith, each .1, r .place));
+            time = rw getD-drop (omega (arith, each .2, r .place));
+          }
+
+      pub summary-within : SummaryWithin sum × (q .row .hold < 1_000_000_000_000_000_000)
+      unfolding latest
+      summary-within = (
+        record {
+          blocks = omega (arith, r .few-blocks, r .place);
+          held = omega (arith, r .few-held, r .place);
+          ticks = omega (arith, r .few-ticks, r .place);
+        },
+        omega (arith, bounds .1 .hold, r .place),
+      )
+
+      pub running-step : Running (q .then) (counted (L .counts .stages) sum (q .row)) (recorded (L .table) (sum .turns) flows (q .row)) (over rows at (rowWords (q .row))) (at + 15) (left - 1)
+      unfolding summary records rowsWords counted rowWords wayWords latest
+      running-step =
+          let next = run-next L left s q h starts in
+          let fits : at + 15 ≤ length rows = row-room h room in
+          let longer : length (run L left s) ≡ suc (length (run L (left - 1) (q .then))) = ap length next in
+          record {
+            starts = r .starts + 1;
+            place = omega (arith, r .place);
+            at-place = omega (arith, r .at-place);
+            within = bounds .0;
+            long = length-over rows at (rowWords (q .row)) 15 refl fits ∙ r .long;
+            kept = drop-over rows at (rowWords (q .row)) 15 refl fits ∙ sym (drop-drop 15 at rows) ∙ ap (drop 15) (r .kept) ∙ drop-drop 15 at rows₀;
+            words =
+                rw (take-over rows at (rowWords (q .row)) 15 refl fits)
+                (r .words
+                ∙ ap (λ (rs : List Row). take at rows ++ rowsWords rs) next
+                ∙ sym (append-assoc (take at rows) (rowWords (q .row)) _));
+            many = omega (arith, r .many);
+            wide = length-recorded (L .table) (sum .turns) flows (q .row) ∙ r .wide;
+            table =
+                recorded-within (L .table) (sum .turns) flows (q .row) (omega (arith, r .wide, bounds .1 .flow)) (L .counts .flows) (r .starts) (bounds .1 .flow)
+                (omega (arith, dominant-within (ok .each (q .row .block) (bounds .1 .block)))) (r .table);
+            noted = r .noted ∙ ap (records (L .table) (sum .turns) flows) next;
+            counts = r .counts ∙ ap (summary (L .counts .stages) sum) next;
+            few-blocks = omega (arith, r .few-blocks);
+            few-held = omega (arith, r .few-held, one-most (ltb 0 (q .row .hold)));
+            few-ticks = omega (arith, r .few-ticks, bounds .1 .hold, r .place);
+          }
+
+-- the code's first state is the definition's
+module _ (L : Load) (s : State) (e : s ≡ origin L) where
+  pub origin-reached : Accepted L → StateWithin L 0 s
+  origin-reached ok = rw e (origin-within L ok)
+
+  pub filled-first : (n : ℕ) (flows rows : List ℕ) (sum : Summary) (flowsThen rowsThen : List ℕ)
+      → Filled L (run L n s) flows rows sum flowsThen rowsThen → Filled L (run L n (origin L)) flows rows sum flowsThen rowsThen
+  filled-first n flows rows sum flowsThen rowsThen filled = rw (← e) filled

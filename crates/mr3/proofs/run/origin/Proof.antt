@@ -1,0 +1,27 @@
+-- `mr3::run::origin` meets its contract: the arrivals of tick 0, of a planner that has seen nothing.
+use mathlib.Core.Path.{ap}
+use native.Mathlib.Omega.{arith}
+use borrow.Author.Needs.{needs}
+use lib.ListN.{replicate}
+use Rattle.mr3.specs.declared.state.Mode.the-variants.{Idle}
+use Rattle.mr3.specs.Plan.{origin, state}
+use Rattle.mr3.specs.Storage.{atFirst, entriesOf}
+use Rattle.mr3.proofs.run.origin.Statement.{statement}
+use Rattle.mr3.proofs.run.origin.Tie as tie
+
+nothing-requires : tie.Need-nothing-requires
+nothing-requires c κs = search needs
+
+up-to-requires : tie.Need-up-to-requires
+unfolding atFirst
+up-to-requires c κs =
+    let k = c .before .before .before in
+    (k .pre .0, k .pre .1, rw (c .before .nothing .ensures) (omega arith), rw (c .before .nothing .ensures) (omega arith))
+
+returns : tie.Need-returns
+unfolding origin state atFirst entriesOf
+returns c =
+    ap (state Idle) (rw (c .before .before .nothing .ensures) at (c .up-to .ensures .0 (replicate 64 0) (replicate 64 0)))
+
+pub origin-spec : {M : Type 1} → statement M
+origin-spec = tie.close (tie.spec nothing-requires up-to-requires returns)

@@ -1,0 +1,56 @@
+-- Counts and flow records, from the rows alone.
+use Prim.Native.Nat.{ℕ, _+_, _*_}
+use mathlib.Core.Path.{_≡_}
+use mathlib.Core.Bool.{Bool, true, false, cond}
+use mathlib.Core.List.{List, [], _∷_, _++_}
+use lib.Dec.{ltb}
+use lib.ListN.{length, getD, set, take, drop}
+use Rattle.load.specs.Dominant.{dominantTime}
+use Rattle.mr3.specs.declared.row.Row.{Row}
+use Rattle.mr3.specs.declared.Summary.{Summary}
+use Rattle.mr3.specs.Load.{Load, blockAt}
+use Rattle.mr3.specs.Rows.{rowsWords}
+use Rattle.mr3.specs.Stages.{lastRun}
+
+unfoldable pub one : Bool → ℕ
+one true = 1
+one false = 0
+
+-- The answer counts blocks listed, turns, rounds, turns held (rows whose hold is above 0), held ticks in sum, and the end (the
+-- last row's finish at the last stage). With no rows all are 0. Turns and rounds are numbered from 1, so the last row has their
+-- number.
+unfoldable pub none : Summary
+none = record { blocks = 0; turns = 0; rounds = 0; held = 0; ticks = 0; end = 0 }
+
+unfoldable pub counted : ℕ → Summary → Row → Summary
+counted stages s r = record {
+  blocks = s .blocks + 1;
+  turns = r .turn;
+  rounds = r .round;
+  held = s .held + one (ltb 0 (r .hold));
+  ticks = s .ticks + r .hold;
+  end = lastRun stages (r .way) .finish;
+}
+
+unfoldable pub summary : ℕ → Summary → List Row → Summary
+summary stages s [] = s
+summary stages s (r ∷ rs) = summary stages (counted stages s r) rs
+
+-- A flow's record: blocks listed, turns begun, sum of their dominant times. A row adds one block to its flow's record, one turn
+-- where it is the first of its turn (the row before it, if any, is of the turn `before`), and its block's dominant time.
+unfoldable pub added : ℕ → ℕ → List ℕ → List ℕ
+added turns time ws = set (set (set ws 0 (getD ws 0 0 + 1)) 1 (getD ws 1 0 + turns)) 2 (getD ws 2 0 + time)
+
+unfoldable pub recorded : List ℕ → ℕ → List ℕ → Row → List ℕ
+recorded table before ws r =
+    take (3 * r .flow) ws ++ added (one (ltb before (r .turn))) (dominantTime (blockAt table (r .block))) (drop (3 * r .flow) ws)
+
+unfoldable pub records : List ℕ → ℕ → List ℕ → List Row → List ℕ
+records table before ws [] = ws
+records table before ws (r ∷ rs) = records table (r .turn) (recorded table before ws r) rs
+
+-- Rows, counted and written: the summary, the flow table from what it held, and the row table, whose room beyond need is left.
+pub record Filled (L : Load) (rs : List Row) (flows rows : List ℕ) (s : Summary) (flowsThen rowsThen : List ℕ) : Type 0 where
+  pub counts : s ≡ summary (L .counts .stages) none rs
+  pub noted : flowsThen ≡ records (L .table) 0 flows rs
+  pub written : rowsThen ≡ rowsWords rs ++ drop (15 * length rs) rows

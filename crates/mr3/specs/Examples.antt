@@ -1,0 +1,426 @@
+-- The starred examples of document 01, and loads of our own for what they do not catch, as one table under one statement.
+use Prim.Native.Nat.{ℕ}
+use mathlib.Core.Bool.{Bool, true, false, _&&_}
+use mathlib.Core.List.{List, [], _∷_, _++_}
+use lib.Dec.{eqb}
+use lib.ListN.{length, replicate}
+use Rattle.mr3.specs.declared.row.Row.{Row}
+use Rattle.mr3.specs.declared.Summary.{Summary}
+use Rattle.mr3.specs.Counts.{none, records, summary}
+use Rattle.mr3.specs.Load.{Load}
+use Rattle.mr3.specs.Plan.{plan}
+use Rattle.mr3.specs.Rows.{rowsWords}
+
+pub record Example : Type 0 where
+  pub stages : ℕ
+  pub flows : ℕ
+  pub blocks : List (List ℕ)
+  pub limit : ℕ
+  pub rows : List (List ℕ)
+  pub records : List (List ℕ)
+  pub counts : List ℕ
+
+unfoldable pub joined : List (List ℕ) → List ℕ
+joined [] = []
+joined (ws ∷ wss) = ws ++ joined wss
+
+unfoldable pub same : List ℕ → List ℕ → Bool
+same [] [] = true
+same [] (y ∷ ys) = false
+same (x ∷ xs) [] = false
+same (x ∷ xs) (y ∷ ys) = eqb x y && same xs ys
+
+unfoldable pub loadOf : Example → Load
+loadOf e = record { counts = record { stages = e .stages; flows = e .flows; blocks = length (e .blocks) }; table = joined (e .blocks) }
+
+unfoldable pub countWords : Summary → List ℕ
+countWords s = s .blocks ∷ s .turns ∷ s .rounds ∷ s .held ∷ s .ticks ∷ s .end ∷ []
+
+-- rows, flow records and counts are as the table has them
+unfoldable pub holds : Example → Bool
+holds e =
+    let rs : List Row = plan (loadOf e) (e .limit) in
+    same (rowsWords rs) (joined (e .rows))
+    && same (records (joined (e .blocks)) 0 (replicate (length (joined (e .records))) 0) rs) (joined (e .records))
+    && same (countWords (summary (e .stages) none rs)) (e .counts)
+
+unfoldable pub allHold : List Example → Bool
+allHold [] = true
+allHold (e ∷ es) = holds e && allHold es
+
+unfoldable pub E1 : Example
+E1 = record {
+  stages = 1;
+  flows = 1;
+  blocks = [];
+  limit = 18446744073709551615;
+  rows = [];
+  records =
+      (0 ∷ 0 ∷ 0 ∷ [])
+      ∷ [];
+  counts = 0 ∷ 0 ∷ 0 ∷ 0 ∷ 0 ∷ 0 ∷ [];
+}
+
+unfoldable pub E2 : Example
+E2 = record {
+  stages = 2;
+  flows = 2;
+  blocks =
+      (0 ∷ 0 ∷ 1 ∷ 3 ∷ 0 ∷ 0 ∷ [])
+      ∷ (1 ∷ 0 ∷ 3 ∷ 1 ∷ 0 ∷ 0 ∷ [])
+      ∷ (0 ∷ 0 ∷ 1 ∷ 3 ∷ 0 ∷ 0 ∷ [])
+      ∷ (1 ∷ 0 ∷ 3 ∷ 1 ∷ 0 ∷ 0 ∷ [])
+      ∷ [];
+  limit = 18446744073709551615;
+  rows =
+      (0 ∷ 0 ∷ 1 ∷ 1 ∷ 0 ∷ 0 ∷ 2 ∷ 0 ∷ 1 ∷ 1 ∷ 4 ∷ 0 ∷ 0 ∷ 0 ∷ 0 ∷ [])
+      ∷ (1 ∷ 1 ∷ 1 ∷ 2 ∷ 0 ∷ 0 ∷ 1 ∷ 1 ∷ 4 ∷ 4 ∷ 5 ∷ 0 ∷ 0 ∷ 0 ∷ 0 ∷ [])
+      ∷ (2 ∷ 0 ∷ 2 ∷ 3 ∷ 0 ∷ 0 ∷ 2 ∷ 4 ∷ 5 ∷ 5 ∷ 8 ∷ 0 ∷ 0 ∷ 0 ∷ 0 ∷ [])
+      ∷ (3 ∷ 1 ∷ 2 ∷ 4 ∷ 0 ∷ 0 ∷ 1 ∷ 5 ∷ 8 ∷ 8 ∷ 9 ∷ 0 ∷ 0 ∷ 0 ∷ 0 ∷ [])
+      ∷ [];
+  records =
+      (2 ∷ 2 ∷ 6 ∷ [])
+      ∷ (2 ∷ 2 ∷ 6 ∷ [])
+      ∷ [];
+  counts = 4 ∷ 4 ∷ 2 ∷ 0 ∷ 0 ∷ 9 ∷ [];
+}
+
+unfoldable pub E3 : Example
+E3 = record {
+  stages = 2;
+  flows = 1;
+  blocks =
+      (0 ∷ 0 ∷ 1 ∷ 10 ∷ 0 ∷ 0 ∷ [])
+      ∷ (0 ∷ 0 ∷ 1 ∷ 10 ∷ 0 ∷ 0 ∷ [])
+      ∷ (0 ∷ 0 ∷ 1 ∷ 10 ∷ 0 ∷ 0 ∷ [])
+      ∷ [];
+  limit = 18446744073709551615;
+  rows =
+      (0 ∷ 0 ∷ 1 ∷ 1 ∷ 0 ∷ 0 ∷ 2 ∷ 0 ∷ 1 ∷ 1 ∷ 11 ∷ 0 ∷ 0 ∷ 0 ∷ 0 ∷ [])
+      ∷ (1 ∷ 0 ∷ 2 ∷ 2 ∷ 0 ∷ 0 ∷ 2 ∷ 1 ∷ 2 ∷ 11 ∷ 21 ∷ 0 ∷ 0 ∷ 0 ∷ 0 ∷ [])
+      ∷ (2 ∷ 0 ∷ 3 ∷ 3 ∷ 0 ∷ 9 ∷ 2 ∷ 11 ∷ 12 ∷ 21 ∷ 31 ∷ 0 ∷ 0 ∷ 0 ∷ 0 ∷ [])
+      ∷ [];
+  records =
+      (3 ∷ 3 ∷ 30 ∷ [])
+      ∷ [];
+  counts = 3 ∷ 3 ∷ 3 ∷ 1 ∷ 9 ∷ 31 ∷ [];
+}
+
+unfoldable pub E4 : Example
+E4 = record {
+  stages = 2;
+  flows = 2;
+  blocks =
+      (0 ∷ 0 ∷ 1 ∷ 10 ∷ 0 ∷ 0 ∷ [])
+      ∷ (1 ∷ 0 ∷ 1 ∷ 10 ∷ 0 ∷ 0 ∷ [])
+      ∷ (0 ∷ 0 ∷ 1 ∷ 10 ∷ 0 ∷ 0 ∷ [])
+      ∷ (1 ∷ 0 ∷ 1 ∷ 10 ∷ 0 ∷ 0 ∷ [])
+      ∷ (0 ∷ 0 ∷ 1 ∷ 10 ∷ 0 ∷ 0 ∷ [])
+      ∷ (1 ∷ 0 ∷ 1 ∷ 10 ∷ 0 ∷ 0 ∷ [])
+      ∷ [];
+  limit = 18446744073709551615;
+  rows =
+      (0 ∷ 0 ∷ 1 ∷ 1 ∷ 0 ∷ 0 ∷ 2 ∷ 0 ∷ 1 ∷ 1 ∷ 11 ∷ 0 ∷ 0 ∷ 0 ∷ 0 ∷ [])
+      ∷ (1 ∷ 1 ∷ 1 ∷ 2 ∷ 0 ∷ 0 ∷ 2 ∷ 1 ∷ 2 ∷ 11 ∷ 21 ∷ 0 ∷ 0 ∷ 0 ∷ 0 ∷ [])
+      ∷ (2 ∷ 0 ∷ 2 ∷ 3 ∷ 0 ∷ 0 ∷ 2 ∷ 2 ∷ 3 ∷ 21 ∷ 31 ∷ 0 ∷ 0 ∷ 0 ∷ 0 ∷ [])
+      ∷ (3 ∷ 1 ∷ 2 ∷ 4 ∷ 0 ∷ 8 ∷ 2 ∷ 11 ∷ 12 ∷ 31 ∷ 41 ∷ 0 ∷ 0 ∷ 0 ∷ 0 ∷ [])
+      ∷ (4 ∷ 0 ∷ 3 ∷ 5 ∷ 0 ∷ 9 ∷ 2 ∷ 21 ∷ 22 ∷ 41 ∷ 51 ∷ 0 ∷ 0 ∷ 0 ∷ 0 ∷ [])
+      ∷ (5 ∷ 1 ∷ 3 ∷ 6 ∷ 0 ∷ 9 ∷ 2 ∷ 31 ∷ 32 ∷ 51 ∷ 61 ∷ 0 ∷ 0 ∷ 0 ∷ 0 ∷ [])
+      ∷ [];
+  records =
+      (3 ∷ 3 ∷ 30 ∷ [])
+      ∷ (3 ∷ 3 ∷ 30 ∷ [])
+      ∷ [];
+  counts = 6 ∷ 6 ∷ 3 ∷ 3 ∷ 26 ∷ 61 ∷ [];
+}
+
+unfoldable pub E5 : Example
+E5 = record {
+  stages = 1;
+  flows = 2;
+  blocks =
+      (0 ∷ 0 ∷ 2 ∷ 0 ∷ 0 ∷ 0 ∷ [])
+      ∷ (0 ∷ 0 ∷ 1 ∷ 0 ∷ 0 ∷ 0 ∷ [])
+      ∷ (0 ∷ 0 ∷ 1 ∷ 0 ∷ 0 ∷ 0 ∷ [])
+      ∷ (0 ∷ 0 ∷ 5 ∷ 0 ∷ 0 ∷ 0 ∷ [])
+      ∷ (1 ∷ 0 ∷ 5 ∷ 0 ∷ 0 ∷ 0 ∷ [])
+      ∷ (1 ∷ 0 ∷ 5 ∷ 0 ∷ 0 ∷ 0 ∷ [])
+      ∷ [];
+  limit = 18446744073709551615;
+  rows =
+      (0 ∷ 0 ∷ 1 ∷ 1 ∷ 0 ∷ 0 ∷ 1 ∷ 0 ∷ 2 ∷ 0 ∷ 0 ∷ 0 ∷ 0 ∷ 0 ∷ 0 ∷ [])
+      ∷ (4 ∷ 1 ∷ 1 ∷ 2 ∷ 0 ∷ 0 ∷ 1 ∷ 2 ∷ 7 ∷ 0 ∷ 0 ∷ 0 ∷ 0 ∷ 0 ∷ 0 ∷ [])
+      ∷ (1 ∷ 0 ∷ 2 ∷ 3 ∷ 3 ∷ 0 ∷ 1 ∷ 7 ∷ 8 ∷ 0 ∷ 0 ∷ 0 ∷ 0 ∷ 0 ∷ 0 ∷ [])
+      ∷ (2 ∷ 0 ∷ 2 ∷ 3 ∷ 2 ∷ 0 ∷ 1 ∷ 8 ∷ 9 ∷ 0 ∷ 0 ∷ 0 ∷ 0 ∷ 0 ∷ 0 ∷ [])
+      ∷ (3 ∷ 0 ∷ 2 ∷ 3 ∷ 1 ∷ 0 ∷ 1 ∷ 9 ∷ 14 ∷ 0 ∷ 0 ∷ 0 ∷ 0 ∷ 0 ∷ 0 ∷ [])
+      ∷ (5 ∷ 1 ∷ 2 ∷ 4 ∷ 0 ∷ 0 ∷ 1 ∷ 14 ∷ 19 ∷ 0 ∷ 0 ∷ 0 ∷ 0 ∷ 0 ∷ 0 ∷ [])
+      ∷ [];
+  records =
+      (4 ∷ 2 ∷ 9 ∷ [])
+      ∷ (2 ∷ 2 ∷ 10 ∷ [])
+      ∷ [];
+  counts = 6 ∷ 4 ∷ 2 ∷ 0 ∷ 0 ∷ 19 ∷ [];
+}
+
+unfoldable pub E6 : Example
+E6 = record {
+  stages = 1;
+  flows = 1;
+  blocks =
+      (0 ∷ 0 ∷ 4 ∷ 0 ∷ 0 ∷ 0 ∷ [])
+      ∷ (0 ∷ 4 ∷ 4 ∷ 0 ∷ 0 ∷ 0 ∷ [])
+      ∷ [];
+  limit = 18446744073709551615;
+  rows =
+      (0 ∷ 0 ∷ 1 ∷ 1 ∷ 0 ∷ 0 ∷ 1 ∷ 0 ∷ 4 ∷ 0 ∷ 0 ∷ 0 ∷ 0 ∷ 0 ∷ 0 ∷ [])
+      ∷ (1 ∷ 0 ∷ 2 ∷ 2 ∷ 0 ∷ 0 ∷ 1 ∷ 4 ∷ 8 ∷ 0 ∷ 0 ∷ 0 ∷ 0 ∷ 0 ∷ 0 ∷ [])
+      ∷ [];
+  records =
+      (2 ∷ 2 ∷ 8 ∷ [])
+      ∷ [];
+  counts = 2 ∷ 2 ∷ 2 ∷ 0 ∷ 0 ∷ 8 ∷ [];
+}
+
+unfoldable pub E7 : Example
+E7 = record {
+  stages = 1;
+  flows = 1;
+  blocks =
+      (0 ∷ 0 ∷ 4 ∷ 0 ∷ 0 ∷ 0 ∷ [])
+      ∷ (0 ∷ 5 ∷ 4 ∷ 0 ∷ 0 ∷ 0 ∷ [])
+      ∷ [];
+  limit = 18446744073709551615;
+  rows =
+      (0 ∷ 0 ∷ 1 ∷ 1 ∷ 0 ∷ 0 ∷ 1 ∷ 0 ∷ 4 ∷ 0 ∷ 0 ∷ 0 ∷ 0 ∷ 0 ∷ 0 ∷ [])
+      ∷ (1 ∷ 0 ∷ 2 ∷ 2 ∷ 0 ∷ 0 ∷ 1 ∷ 5 ∷ 9 ∷ 0 ∷ 0 ∷ 0 ∷ 0 ∷ 0 ∷ 0 ∷ [])
+      ∷ [];
+  records =
+      (2 ∷ 2 ∷ 8 ∷ [])
+      ∷ [];
+  counts = 2 ∷ 2 ∷ 2 ∷ 0 ∷ 0 ∷ 9 ∷ [];
+}
+
+unfoldable pub E8 : Example
+E8 = record {
+  stages = 1;
+  flows = 3;
+  blocks =
+      (0 ∷ 0 ∷ 3 ∷ 0 ∷ 0 ∷ 0 ∷ [])
+      ∷ (0 ∷ 0 ∷ 3 ∷ 0 ∷ 0 ∷ 0 ∷ [])
+      ∷ (1 ∷ 0 ∷ 2 ∷ 0 ∷ 0 ∷ 0 ∷ [])
+      ∷ (2 ∷ 1 ∷ 1 ∷ 0 ∷ 0 ∷ 0 ∷ [])
+      ∷ [];
+  limit = 18446744073709551615;
+  rows =
+      (0 ∷ 0 ∷ 1 ∷ 1 ∷ 0 ∷ 0 ∷ 1 ∷ 0 ∷ 3 ∷ 0 ∷ 0 ∷ 0 ∷ 0 ∷ 0 ∷ 0 ∷ [])
+      ∷ (2 ∷ 1 ∷ 1 ∷ 2 ∷ 0 ∷ 0 ∷ 1 ∷ 3 ∷ 5 ∷ 0 ∷ 0 ∷ 0 ∷ 0 ∷ 0 ∷ 0 ∷ [])
+      ∷ (3 ∷ 2 ∷ 2 ∷ 3 ∷ 3 ∷ 0 ∷ 1 ∷ 5 ∷ 6 ∷ 0 ∷ 0 ∷ 0 ∷ 0 ∷ 0 ∷ 0 ∷ [])
+      ∷ (1 ∷ 0 ∷ 2 ∷ 4 ∷ 0 ∷ 0 ∷ 1 ∷ 6 ∷ 9 ∷ 0 ∷ 0 ∷ 0 ∷ 0 ∷ 0 ∷ 0 ∷ [])
+      ∷ [];
+  records =
+      (2 ∷ 2 ∷ 6 ∷ [])
+      ∷ (1 ∷ 1 ∷ 2 ∷ [])
+      ∷ (1 ∷ 1 ∷ 1 ∷ [])
+      ∷ [];
+  counts = 4 ∷ 4 ∷ 2 ∷ 0 ∷ 0 ∷ 9 ∷ [];
+}
+
+unfoldable pub E9 : Example
+E9 = record {
+  stages = 2;
+  flows = 1;
+  blocks =
+      (0 ∷ 0 ∷ 3 ∷ 3 ∷ 0 ∷ 0 ∷ [])
+      ∷ [];
+  limit = 18446744073709551615;
+  rows =
+      (0 ∷ 0 ∷ 1 ∷ 1 ∷ 0 ∷ 0 ∷ 1 ∷ 0 ∷ 3 ∷ 3 ∷ 6 ∷ 0 ∷ 0 ∷ 0 ∷ 0 ∷ [])
+      ∷ [];
+  records =
+      (1 ∷ 1 ∷ 3 ∷ [])
+      ∷ [];
+  counts = 1 ∷ 1 ∷ 1 ∷ 0 ∷ 0 ∷ 6 ∷ [];
+}
+
+unfoldable pub E10 : Example
+E10 = record {
+  stages = 2;
+  flows = 2;
+  blocks =
+      (0 ∷ 0 ∷ 1 ∷ 3 ∷ 0 ∷ 0 ∷ [])
+      ∷ (1 ∷ 0 ∷ 3 ∷ 1 ∷ 0 ∷ 0 ∷ [])
+      ∷ (0 ∷ 0 ∷ 1 ∷ 3 ∷ 0 ∷ 0 ∷ [])
+      ∷ (1 ∷ 0 ∷ 3 ∷ 1 ∷ 0 ∷ 0 ∷ [])
+      ∷ [];
+  limit = 2;
+  rows =
+      (0 ∷ 0 ∷ 1 ∷ 1 ∷ 0 ∷ 0 ∷ 2 ∷ 0 ∷ 1 ∷ 1 ∷ 4 ∷ 0 ∷ 0 ∷ 0 ∷ 0 ∷ [])
+      ∷ (1 ∷ 1 ∷ 1 ∷ 2 ∷ 0 ∷ 0 ∷ 1 ∷ 1 ∷ 4 ∷ 4 ∷ 5 ∷ 0 ∷ 0 ∷ 0 ∷ 0 ∷ [])
+      ∷ [];
+  records =
+      (1 ∷ 1 ∷ 3 ∷ [])
+      ∷ (1 ∷ 1 ∷ 3 ∷ [])
+      ∷ [];
+  counts = 2 ∷ 2 ∷ 1 ∷ 0 ∷ 0 ∷ 5 ∷ [];
+}
+
+unfoldable pub E10-none : Example
+E10-none = record {
+  stages = 2;
+  flows = 2;
+  blocks =
+      (0 ∷ 0 ∷ 1 ∷ 3 ∷ 0 ∷ 0 ∷ [])
+      ∷ (1 ∷ 0 ∷ 3 ∷ 1 ∷ 0 ∷ 0 ∷ [])
+      ∷ (0 ∷ 0 ∷ 1 ∷ 3 ∷ 0 ∷ 0 ∷ [])
+      ∷ (1 ∷ 0 ∷ 3 ∷ 1 ∷ 0 ∷ 0 ∷ [])
+      ∷ [];
+  limit = 0;
+  rows = [];
+  records =
+      (0 ∷ 0 ∷ 0 ∷ [])
+      ∷ (0 ∷ 0 ∷ 0 ∷ [])
+      ∷ [];
+  counts = 0 ∷ 0 ∷ 0 ∷ 0 ∷ 0 ∷ 0 ∷ [];
+}
+
+unfoldable pub E11 : Example
+E11 = record {
+  stages = 2;
+  flows = 2;
+  blocks =
+      (1 ∷ 0 ∷ 1 ∷ 10 ∷ 0 ∷ 0 ∷ [])
+      ∷ (0 ∷ 0 ∷ 1 ∷ 10 ∷ 0 ∷ 0 ∷ [])
+      ∷ (0 ∷ 4 ∷ 1 ∷ 1 ∷ 0 ∷ 0 ∷ [])
+      ∷ [];
+  limit = 18446744073709551615;
+  rows =
+      (0 ∷ 1 ∷ 1 ∷ 1 ∷ 0 ∷ 0 ∷ 2 ∷ 0 ∷ 1 ∷ 1 ∷ 11 ∷ 0 ∷ 0 ∷ 0 ∷ 0 ∷ [])
+      ∷ (1 ∷ 0 ∷ 1 ∷ 2 ∷ 0 ∷ 0 ∷ 2 ∷ 1 ∷ 2 ∷ 11 ∷ 21 ∷ 0 ∷ 0 ∷ 0 ∷ 0 ∷ [])
+      ∷ (2 ∷ 0 ∷ 2 ∷ 3 ∷ 0 ∷ 7 ∷ 1 ∷ 11 ∷ 12 ∷ 21 ∷ 22 ∷ 0 ∷ 0 ∷ 0 ∷ 0 ∷ [])
+      ∷ [];
+  records =
+      (2 ∷ 2 ∷ 11 ∷ [])
+      ∷ (1 ∷ 1 ∷ 10 ∷ [])
+      ∷ [];
+  counts = 3 ∷ 3 ∷ 2 ∷ 1 ∷ 7 ∷ 22 ∷ [];
+}
+
+-- A turn goes on at balance exactly 0 after a block.
+unfoldable pub zero-goes-on : Example
+zero-goes-on = record {
+  stages = 1;
+  flows = 2;
+  blocks =
+      (0 ∷ 0 ∷ 2 ∷ 0 ∷ 0 ∷ 0 ∷ [])
+      ∷ (0 ∷ 0 ∷ 1 ∷ 0 ∷ 0 ∷ 0 ∷ [])
+      ∷ (0 ∷ 0 ∷ 2 ∷ 0 ∷ 0 ∷ 0 ∷ [])
+      ∷ (0 ∷ 0 ∷ 5 ∷ 0 ∷ 0 ∷ 0 ∷ [])
+      ∷ (1 ∷ 0 ∷ 5 ∷ 0 ∷ 0 ∷ 0 ∷ [])
+      ∷ (1 ∷ 0 ∷ 5 ∷ 0 ∷ 0 ∷ 0 ∷ [])
+      ∷ [];
+  limit = 18446744073709551615;
+  rows =
+      (0 ∷ 0 ∷ 1 ∷ 1 ∷ 0 ∷ 0 ∷ 1 ∷ 0 ∷ 2 ∷ 0 ∷ 0 ∷ 0 ∷ 0 ∷ 0 ∷ 0 ∷ [])
+      ∷ (4 ∷ 1 ∷ 1 ∷ 2 ∷ 0 ∷ 0 ∷ 1 ∷ 2 ∷ 7 ∷ 0 ∷ 0 ∷ 0 ∷ 0 ∷ 0 ∷ 0 ∷ [])
+      ∷ (1 ∷ 0 ∷ 2 ∷ 3 ∷ 3 ∷ 0 ∷ 1 ∷ 7 ∷ 8 ∷ 0 ∷ 0 ∷ 0 ∷ 0 ∷ 0 ∷ 0 ∷ [])
+      ∷ (2 ∷ 0 ∷ 2 ∷ 3 ∷ 2 ∷ 0 ∷ 1 ∷ 8 ∷ 10 ∷ 0 ∷ 0 ∷ 0 ∷ 0 ∷ 0 ∷ 0 ∷ [])
+      ∷ (3 ∷ 0 ∷ 2 ∷ 3 ∷ 0 ∷ 0 ∷ 1 ∷ 10 ∷ 15 ∷ 0 ∷ 0 ∷ 0 ∷ 0 ∷ 0 ∷ 0 ∷ [])
+      ∷ (5 ∷ 1 ∷ 2 ∷ 4 ∷ 0 ∷ 0 ∷ 1 ∷ 15 ∷ 20 ∷ 0 ∷ 0 ∷ 0 ∷ 0 ∷ 0 ∷ 0 ∷ [])
+      ∷ [];
+  records =
+      (4 ∷ 2 ∷ 10 ∷ [])
+      ∷ (2 ∷ 2 ∷ 10 ∷ [])
+      ∷ [];
+  counts = 6 ∷ 4 ∷ 2 ∷ 0 ∷ 0 ∷ 20 ∷ [];
+}
+
+-- The credit is the largest excess of the round before, not of all rounds: round 1 leaves 9, round 2 leaves 1, so round 3 opens with credit 1.
+unfoldable pub excess-of-the-round-before : Example
+excess-of-the-round-before = record {
+  stages = 1;
+  flows = 2;
+  blocks =
+      (0 ∷ 0 ∷ 9 ∷ 0 ∷ 0 ∷ 0 ∷ [])
+      ∷ (0 ∷ 0 ∷ 10 ∷ 0 ∷ 0 ∷ 0 ∷ [])
+      ∷ (0 ∷ 0 ∷ 1 ∷ 0 ∷ 0 ∷ 0 ∷ [])
+      ∷ (0 ∷ 0 ∷ 1 ∷ 0 ∷ 0 ∷ 0 ∷ [])
+      ∷ (0 ∷ 0 ∷ 1 ∷ 0 ∷ 0 ∷ 0 ∷ [])
+      ∷ (0 ∷ 0 ∷ 1 ∷ 0 ∷ 0 ∷ 0 ∷ [])
+      ∷ (1 ∷ 0 ∷ 1 ∷ 0 ∷ 0 ∷ 0 ∷ [])
+      ∷ (1 ∷ 0 ∷ 9 ∷ 0 ∷ 0 ∷ 0 ∷ [])
+      ∷ (1 ∷ 0 ∷ 1 ∷ 0 ∷ 0 ∷ 0 ∷ [])
+      ∷ (1 ∷ 0 ∷ 1 ∷ 0 ∷ 0 ∷ 0 ∷ [])
+      ∷ (1 ∷ 0 ∷ 1 ∷ 0 ∷ 0 ∷ 0 ∷ [])
+      ∷ [];
+  limit = 18446744073709551615;
+  rows =
+      (0 ∷ 0 ∷ 1 ∷ 1 ∷ 0 ∷ 0 ∷ 1 ∷ 0 ∷ 9 ∷ 0 ∷ 0 ∷ 0 ∷ 0 ∷ 0 ∷ 0 ∷ [])
+      ∷ (6 ∷ 1 ∷ 1 ∷ 2 ∷ 0 ∷ 0 ∷ 1 ∷ 9 ∷ 10 ∷ 0 ∷ 0 ∷ 0 ∷ 0 ∷ 0 ∷ 0 ∷ [])
+      ∷ (1 ∷ 0 ∷ 2 ∷ 3 ∷ 0 ∷ 0 ∷ 1 ∷ 10 ∷ 20 ∷ 0 ∷ 0 ∷ 0 ∷ 0 ∷ 0 ∷ 0 ∷ [])
+      ∷ (7 ∷ 1 ∷ 2 ∷ 4 ∷ 8 ∷ 0 ∷ 1 ∷ 20 ∷ 29 ∷ 0 ∷ 0 ∷ 0 ∷ 0 ∷ 0 ∷ 0 ∷ [])
+      ∷ (2 ∷ 0 ∷ 3 ∷ 5 ∷ 0 ∷ 0 ∷ 1 ∷ 29 ∷ 30 ∷ 0 ∷ 0 ∷ 0 ∷ 0 ∷ 0 ∷ 0 ∷ [])
+      ∷ (8 ∷ 1 ∷ 3 ∷ 6 ∷ 9 ∷ 0 ∷ 1 ∷ 30 ∷ 31 ∷ 0 ∷ 0 ∷ 0 ∷ 0 ∷ 0 ∷ 0 ∷ [])
+      ∷ (9 ∷ 1 ∷ 3 ∷ 6 ∷ 8 ∷ 0 ∷ 1 ∷ 31 ∷ 32 ∷ 0 ∷ 0 ∷ 0 ∷ 0 ∷ 0 ∷ 0 ∷ [])
+      ∷ (10 ∷ 1 ∷ 3 ∷ 6 ∷ 7 ∷ 0 ∷ 1 ∷ 32 ∷ 33 ∷ 0 ∷ 0 ∷ 0 ∷ 0 ∷ 0 ∷ 0 ∷ [])
+      ∷ (3 ∷ 0 ∷ 4 ∷ 7 ∷ 0 ∷ 0 ∷ 1 ∷ 33 ∷ 34 ∷ 0 ∷ 0 ∷ 0 ∷ 0 ∷ 0 ∷ 0 ∷ [])
+      ∷ (4 ∷ 0 ∷ 5 ∷ 8 ∷ 0 ∷ 0 ∷ 1 ∷ 34 ∷ 35 ∷ 0 ∷ 0 ∷ 0 ∷ 0 ∷ 0 ∷ 0 ∷ [])
+      ∷ (5 ∷ 0 ∷ 6 ∷ 9 ∷ 0 ∷ 0 ∷ 1 ∷ 35 ∷ 36 ∷ 0 ∷ 0 ∷ 0 ∷ 0 ∷ 0 ∷ 0 ∷ [])
+      ∷ [];
+  records =
+      (6 ∷ 6 ∷ 23 ∷ [])
+      ∷ (5 ∷ 3 ∷ 13 ∷ [])
+      ∷ [];
+  counts = 11 ∷ 9 ∷ 6 ∷ 0 ∷ 0 ∷ 36 ∷ [];
+}
+
+-- A block that arrives at the tick at which stage 1 gets free is taken before the turn is tested: the flow that joins at tick 4 stands before the one whose turn ends there.
+unfoldable pub arrival-at-the-finish : Example
+arrival-at-the-finish = record {
+  stages = 1;
+  flows = 2;
+  blocks =
+      (0 ∷ 0 ∷ 4 ∷ 0 ∷ 0 ∷ 0 ∷ [])
+      ∷ (0 ∷ 0 ∷ 4 ∷ 0 ∷ 0 ∷ 0 ∷ [])
+      ∷ (1 ∷ 4 ∷ 1 ∷ 0 ∷ 0 ∷ 0 ∷ [])
+      ∷ [];
+  limit = 18446744073709551615;
+  rows =
+      (0 ∷ 0 ∷ 1 ∷ 1 ∷ 0 ∷ 0 ∷ 1 ∷ 0 ∷ 4 ∷ 0 ∷ 0 ∷ 0 ∷ 0 ∷ 0 ∷ 0 ∷ [])
+      ∷ (2 ∷ 1 ∷ 2 ∷ 2 ∷ 4 ∷ 0 ∷ 1 ∷ 4 ∷ 5 ∷ 0 ∷ 0 ∷ 0 ∷ 0 ∷ 0 ∷ 0 ∷ [])
+      ∷ (1 ∷ 0 ∷ 2 ∷ 3 ∷ 0 ∷ 0 ∷ 1 ∷ 5 ∷ 9 ∷ 0 ∷ 0 ∷ 0 ∷ 0 ∷ 0 ∷ 0 ∷ [])
+      ∷ [];
+  records =
+      (2 ∷ 2 ∷ 8 ∷ [])
+      ∷ (1 ∷ 1 ∷ 1 ∷ [])
+      ∷ [];
+  counts = 3 ∷ 3 ∷ 2 ∷ 0 ∷ 0 ∷ 9 ∷ [];
+}
+
+-- The planner runs empty and goes on at the next arrival; the excess of a flow that left is forgotten.
+unfoldable pub idle-again : Example
+idle-again = record {
+  stages = 2;
+  flows = 2;
+  blocks =
+      (0 ∷ 0 ∷ 3 ∷ 1 ∷ 0 ∷ 0 ∷ [])
+      ∷ (1 ∷ 20 ∷ 1 ∷ 1 ∷ 0 ∷ 0 ∷ [])
+      ∷ (0 ∷ 20 ∷ 1 ∷ 4 ∷ 0 ∷ 0 ∷ [])
+      ∷ (0 ∷ 21 ∷ 2 ∷ 2 ∷ 0 ∷ 0 ∷ [])
+      ∷ [];
+  limit = 18446744073709551615;
+  rows =
+      (0 ∷ 0 ∷ 1 ∷ 1 ∷ 0 ∷ 0 ∷ 1 ∷ 0 ∷ 3 ∷ 3 ∷ 4 ∷ 0 ∷ 0 ∷ 0 ∷ 0 ∷ [])
+      ∷ (1 ∷ 1 ∷ 2 ∷ 2 ∷ 0 ∷ 0 ∷ 1 ∷ 20 ∷ 21 ∷ 21 ∷ 22 ∷ 0 ∷ 0 ∷ 0 ∷ 0 ∷ [])
+      ∷ (2 ∷ 0 ∷ 2 ∷ 3 ∷ 0 ∷ 0 ∷ 2 ∷ 21 ∷ 22 ∷ 22 ∷ 26 ∷ 0 ∷ 0 ∷ 0 ∷ 0 ∷ [])
+      ∷ (3 ∷ 0 ∷ 3 ∷ 4 ∷ 0 ∷ 0 ∷ 1 ∷ 22 ∷ 24 ∷ 26 ∷ 28 ∷ 0 ∷ 0 ∷ 0 ∷ 0 ∷ [])
+      ∷ [];
+  records =
+      (3 ∷ 3 ∷ 9 ∷ [])
+      ∷ (1 ∷ 1 ∷ 1 ∷ [])
+      ∷ [];
+  counts = 4 ∷ 4 ∷ 3 ∷ 0 ∷ 0 ∷ 28 ∷ [];
+}
+
+unfoldable pub examples : List Example
+examples =
+    E1 ∷ E2 ∷ E3 ∷ E4 ∷ E5 ∷ E6 ∷ E7 ∷ E8 ∷ E9 ∷ E10 ∷ E10-none ∷ E11 ∷ zero-goes-on ∷ excess-of-the-round-before ∷ arrival-at-the-finish ∷ idle-again ∷ []

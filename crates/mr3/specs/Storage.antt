@@ -1,0 +1,48 @@
+-- How the code's state stands for the definition's.
+use Prim.Native.Nat.{ℕ, zero, suc}
+use mathlib.Core.List.{List, [], _∷_}
+use mathlib.Core.Option.{Option, none, some}
+use lib.ListN.{getD, drop}
+use Rattle.mr3.specs.declared.list.Entry.{Entry}
+use Rattle.mr3.specs.declared.state.Core.{Core}
+use Rattle.mr3.specs.declared.state.Line.{Line}
+use Rattle.mr3.specs.declared.state.Planner.{Planner}
+use Rattle.mr3.specs.declared.step.Next.{Next}
+use Rattle.mr3.specs.declared.step.Next.the-variants.{Start, Done}
+use Rattle.mr3.specs.Plan as plan
+
+-- The list lies in its storage with two words an entry, flow and excess, the head first.
+unfoldable pub entriesOf : ℕ → List ℕ → List Entry
+entriesOf zero s = []
+entriesOf (suc n) s = record { flow = getD s 0 0; excess = getD s 1 0 } ∷ entriesOf n (drop 2 s)
+
+abbrev pub lineOf : Line → List ℕ → plan.Line
+lineOf l list = record { next = l .next; wait = entriesOf (l .waiting) list }
+
+abbrev pub coreOf : Core → List ℕ → List ℕ → List ℕ → plan.Core
+coreOf c list from gate = record {
+  clock = c .clock;
+  line = lineOf (c .line) list;
+  round = c .round;
+  turns = c .turns;
+  from = from;
+  gate = gate;
+  way = c .way;
+}
+
+abbrev pub stateOf : Planner → List ℕ → List ℕ → List ℕ → plan.State
+stateOf p list from gate = record { mode = p .mode; core = coreOf (p .core) list from gate }
+
+unfoldable pub nextOf : Next → List ℕ → List ℕ → List ℕ → Option plan.Started
+nextOf Done list from gate = none
+nextOf (Start row p) list from gate = some (record { row = row; then = stateOf p list from gate })
+
+-- nothing has arrived
+unfoldable pub atFirst : Core
+atFirst = record {
+  clock = 0;
+  line = record { next = 0; waiting = 0 };
+  round = record { number = 0; left = 0; credit = 0; most = 0 };
+  turns = 0;
+  way = record { one = plan.none-yet; two = plan.none-yet; three = plan.none-yet; four = plan.none-yet };
+}

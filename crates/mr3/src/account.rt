@@ -1,0 +1,48 @@
+// The accounts of a round: its number, how many turns of it are to come, its credit, and the largest excess that a turn of it
+// has left so far. They know no time.
+ghost use mathlib.Core.Path.{_≡_};
+ghost use Prim.Native.Nat.{_<_, _≤_};
+ghost use Rattle.mr3.specs.Account.{called as Account·called, noted as Account·noted};
+
+pub struct Round {
+    pub number: u64,
+    pub left: u64,
+    pub credit: u64,
+    pub most: u64,
+}
+
+// A flow is called to its turn while so many wait: a round opens first where the one before is used up.
+pub fn called(round: Round, waiting: u64) -> Round
+    requires { ⌜ (0 < waiting) × (round .number < 1000000) ⌝ }
+    ensures { λ r. ⌜ r ≡ Account·called round waiting ⌝ }
+{
+    if round.left == 0 {
+        return Round {
+            number: round.number + 1,
+            left: waiting - 1,
+            credit: round.most,
+            most: 0,
+        };
+    }
+    Round {
+        number: round.number,
+        left: round.left - 1,
+        credit: round.credit,
+        most: round.most,
+    }
+}
+
+// A turn leaves an excess.
+pub fn noted(round: Round, excess: u64) -> Round
+    ensures { λ r. ⌜ r ≡ Account·noted round excess ⌝ }
+{
+    if round.most < excess {
+        return Round {
+            number: round.number,
+            left: round.left,
+            credit: round.credit,
+            most: excess,
+        };
+    }
+    round
+}

@@ -1,0 +1,80 @@
+// A block's way through the stages.
+ghost use mathlib.Core.Path.{_≡_};
+ghost use Prim.Native.Nat.{_≤_, max};
+ghost use Rattle.mr3.specs.Stages.{laterRun, lastRun, wayOf};
+ghost use Rattle.mr3.specs.Within.{WayWithin};
+use load::block::Block;
+
+// A run at one stage.
+pub struct Span {
+    pub start: u64,
+    pub finish: u64,
+}
+
+// The runs of a block at the four stages; start and finish are 0 at those that the load lacks.
+pub struct Way {
+    pub one: Span,
+    pub two: Span,
+    pub three: Span,
+    pub four: Span,
+}
+
+pub fn later(a: u64, b: u64) -> u64
+    ensures { λ r. ⌜ r ≡ max a b ⌝ }
+{
+    if a < b { b } else { a }
+}
+
+// The run at a later stage: after its own finish at the stage before and the previous block's finish at this one.
+fn run_at(has: bool, own: u64, before: u64, time: u32) -> Span
+    requires { ⌜ (own ≤ 4000000000000) × (before ≤ 4000000000000) ⌝ }
+    ensures { λ r. ⌜ r ≡ laterRun has own before time ⌝ }
+{
+    if has {
+        let start = later(own, before);
+        return Span {
+            start,
+            finish: start + time as u64,
+        };
+    }
+    Span {
+        start: 0,
+        finish: 0,
+    }
+}
+
+// The way of a block that starts at a tick, after a block whose way was `before`.
+pub fn pass(stages: usize, before: Way, start: u64, block: Block) -> Way
+    requires { ⌜ (start ≤ 1000000000000) × (WayWithin before 1000000000000) ⌝ }
+    ensures { λ r. ⌜ r ≡ wayOf stages before start block ⌝ }
+{
+    let one = Span {
+        start,
+        finish: start + block.time1 as u64,
+    };
+    let two = run_at(1 < stages, one.finish, before.two.finish, block.time2);
+    let three = run_at(2 < stages, two.finish, before.three.finish, block.time3);
+    let four = run_at(3 < stages, three.finish, before.four.finish, block.time4);
+    Way {
+        one,
+        two,
+        three,
+        four,
+    }
+}
+
+// The run at the last stage.
+pub fn last(stages: usize, way: Way) -> Span
+    ensures { λ r. ⌜ r ≡ lastRun stages way ⌝ }
+{
+    if stages == 1 {
+        return way.one;
+    }
+    if stages == 2 {
+        return way.two;
+    }
+    if stages == 3 {
+        return way.three;
+    }
+    way.four
+}

@@ -1,0 +1,36 @@
+// Reads a load file from standard input, plans it and prints the plan.
+mod line;
+mod listing;
+
+use libc::STDIN_FILENO;
+use load::counts::Counts;
+use loadfile::Answer;
+use mr3::Planned;
+
+// The plan asks for the first 512 blocks.
+fn plan(file: &[u8], counts: Counts, blocks: &[u32], flows: &mut [u64], rows: &mut [u64]) {
+    match mr3::plan(counts, 512, blocks, flows, rows) {
+        Planned::Refused(why) => listing::refused(why),
+        Planned::Plan(summary) => {
+            listing::counts(summary);
+            listing::rows(file, counts.stages, summary.blocks, rows);
+        }
+    }
+}
+
+fn print(file: &[u8], blocks: &mut [u32], flows: &mut [u64], rows: &mut [u64]) {
+    match loadfile::read(file, blocks) {
+        Answer::Refused(why) => listing::refused(why),
+        Answer::Read(counts) => plan(file, counts, blocks, flows, rows),
+    }
+}
+
+// The buffer takes the first 65,536 bytes of the input. The tables have room for 1,024 blocks, 64 flows and 512 rows.
+fn main() {
+    let mut file = io::large_buffer();
+    let mut blocks = [0u32; 6_144];
+    let mut flows = [0u64; 192];
+    let mut rows = [0u64; 7_680];
+    let got = io::read_full(STDIN_FILENO, &mut file);
+    print(&file[..got], &mut blocks, &mut flows, &mut rows);
+}
