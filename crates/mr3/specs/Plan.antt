@@ -91,6 +91,10 @@ heldUntil h c = max (h .ready) (getD (c .gate) (h .flow) 0)
 unfoldable pub turnOf : HeldFlow → Core → Turn
 turnOf h c = record { flow = h .flow; allowance = c .round .credit; spent = h .excess }
 
+-- A block's dominant time is taken from the balance.
+unfoldable pub spent : Turn → Block → Turn
+spent t b = record { flow = t .flow; allowance = t .allowance; spent = t .spent + dominantTime b }
+
 unfoldable pub begun : Core → Core
 begun c = record
     { clock = c .clock; line = c .line; round = c .round; turns = c .turns + 1; from = c .from; gate = c .gate; way = c .way }
@@ -168,10 +172,7 @@ module _ (L : Load) where
         way = wayOf (L .counts .stages) (c .way) (c .clock) block;
       }
 
-  -- The block's dominant time is taken from the balance; the test is made again when the block finishes at stage 1.
-  unfoldable pub spent : Turn → Block → Turn
-  spent t b = record { flow = t .flow; allowance = t .allowance; spent = t .spent + dominantTime b }
-
+  -- The test of the turn is made again when the block finishes at stage 1.
   unfoldable pub after : Core → Turn → List ℕ → Row → State
   after c t gate r =
       let t′ = spent t (blockAt (L .table) (r .block)) in

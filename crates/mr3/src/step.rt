@@ -4,8 +4,8 @@ ghost use mathlib.Core.List.{List};
 ghost use Prim.Native.Nat.{ℕ, _+_, _*_, _-_, _≤_, _<_};
 ghost use lib.ListN.{getD, length};
 ghost use Rattle.mr3.specs.declared.state.Mode.the-variants.{Holds, InTurn};
-ghost use Rattle.mr3.specs.Load.{loadOf};
-ghost use Rattle.mr3.specs.Plan.{after as Plan·after, begins, begun, rowOf, started, step as Plan·step, upTo};
+ghost use Rattle.mr3.specs.Load.{blockAt, loadOf};
+ghost use Rattle.mr3.specs.Plan.{after as Plan·after, begins, begun, rowOf, spent, started, step as Plan·step, upTo};
 ghost use Rattle.mr3.specs.Storage.{coreOf, nextOf, stateOf};
 ghost use Rattle.mr3.specs.Within.{Accepted, Starts, Steps, WayWithin};
 use crate::arrivals;
@@ -54,6 +54,20 @@ fn row_of(counts: Counts, blocks: &[u32], core: Core, turn: Turn, hold: u64, pla
     }
 }
 
+// The block's dominant time is taken from the balance.
+fn spend(blocks: &[u32], turn: Turn, place: usize) -> Turn
+    requires { ⌜ (6 * place + 6 ≤ length (now blocks)) × (place < 1024) × (turn .spent ≤ 100000000000) ⌝ }
+    ensures { λ r. ⌜ r ≡ spent turn (blockAt (now (blocks .entry)) place) ⌝ }
+{
+    let at = 6 * place;
+    let time = load::dominant::time(load::block::at(&blocks[at..]));
+    Turn {
+        flow: turn.flow,
+        allowance: turn.allowance,
+        spent: turn.spent + time as u64,
+    }
+}
+
 // The planner after a row's start: its dominant time is spent, and the clock is where stage 1 is free again.
 fn after(
     counts: Counts,
@@ -70,13 +84,7 @@ fn after(
 {
     let flow = turn.flow;
     let place = row.block as usize;
-    let at = 6 * place;
-    let time = load::dominant::time(load::block::at(&blocks[at..]));
-    let next = Turn {
-        flow,
-        allowance: turn.allowance,
-        spent: turn.spent + time as u64,
-    };
+    let next = spend(blocks, turn, place);
     from[flow] = place + 1;
     let line = core.line;
     let round = core.round;
