@@ -23,7 +23,7 @@ use Rattle.mr3.proofs.Blocks.{dominant-within, gate-set, getD-zeros, ol
 use Rattle.mr3.proofs.Waiting.{Grown, arrivals-within, by-test, called-within, entries-joined, entries-later}
 
 -- what holds of a start that is made where a test says so
-where-some : (P : Started → Type 0) (b : Bool) (s q : Started) → cond b (some s) none ≡ some q → (b ≡ true → P s) → P q
+pub where-some : (P : Started → Type 0) (b : Bool) (s q : Started) → cond b (some s) none ≡ some q → (b ≡ true → P s) → P q
 where-some P true s q e h = let same : s ≡ q = cc in subst P same (h refl)
 where-some P false s q e h = let z : _≡_ {A = ℕ} 0 1 = cc in absurd (omega arith)
 

@@ -1,5 +1,6 @@
 pub mod Accepting
 pub mod Arriving
+pub mod Balances
 pub mod Blocks
 pub mod Bounds
 pub mod Calling
