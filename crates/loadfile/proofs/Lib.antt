@@ -3,6 +3,7 @@ pub mod Files
 pub mod Filling
 pub mod Names
 pub mod Records
+pub mod Refusing
 pub mod Shown
 pub mod Unique
 pub mod Walks

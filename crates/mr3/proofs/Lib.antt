@@ -10,6 +10,7 @@ pub mod Examples
 pub mod Modes
 pub mod Moving
 pub mod Reaching
+pub mod Refusing
 pub mod Running
 pub mod Runs
 pub mod Seeking
