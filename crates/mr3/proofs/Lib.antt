@@ -18,4 +18,6 @@ pub mod Starting
 pub mod Taking
 pub mod Tallying
 pub mod Unique
+pub mod Unstarted
 pub mod Waiting
+pub mod Whole
