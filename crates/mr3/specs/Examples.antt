@@ -421,6 +421,65 @@ idle-again = record {
   counts = 4 ∷ 4 ∷ 3 ∷ 0 ∷ 0 ∷ 28 ∷ [];
 }
 
+-- Three stages. The flow's second turn is held by the first block of its first, a block of a held flow arrives, and a flow that left
+-- comes back in a round with a credit.
+unfoldable pub three-stages : Example
+three-stages = record {
+  stages = 3;
+  flows = 2;
+  blocks =
+      (1 ∷ 0 ∷ 1 ∷ 4 ∷ 5 ∷ 0 ∷ [])
+      ∷ (1 ∷ 0 ∷ 0 ∷ 5 ∷ 0 ∷ 0 ∷ [])
+      ∷ (0 ∷ 2 ∷ 5 ∷ 4 ∷ 2 ∷ 0 ∷ [])
+      ∷ (1 ∷ 5 ∷ 2 ∷ 3 ∷ 5 ∷ 0 ∷ [])
+      ∷ (0 ∷ 5 ∷ 2 ∷ 0 ∷ 6 ∷ 0 ∷ [])
+      ∷ (0 ∷ 5 ∷ 6 ∷ 2 ∷ 5 ∷ 0 ∷ [])
+      ∷ [];
+  limit = 18446744073709551615;
+  rows =
+      (0 ∷ 1 ∷ 1 ∷ 1 ∷ 0 ∷ 0 ∷ 3 ∷ 0 ∷ 1 ∷ 1 ∷ 5 ∷ 5 ∷ 10 ∷ 0 ∷ 0 ∷ [])
+      ∷ (1 ∷ 1 ∷ 2 ∷ 2 ∷ 0 ∷ 4 ∷ 2 ∷ 5 ∷ 5 ∷ 5 ∷ 10 ∷ 10 ∷ 10 ∷ 0 ∷ 0 ∷ [])
+      ∷ (2 ∷ 0 ∷ 3 ∷ 3 ∷ 5 ∷ 0 ∷ 1 ∷ 5 ∷ 10 ∷ 10 ∷ 14 ∷ 14 ∷ 16 ∷ 0 ∷ 0 ∷ [])
+      ∷ (4 ∷ 0 ∷ 3 ∷ 3 ∷ 0 ∷ 0 ∷ 3 ∷ 10 ∷ 12 ∷ 14 ∷ 14 ∷ 16 ∷ 22 ∷ 0 ∷ 0 ∷ [])
+      ∷ (3 ∷ 1 ∷ 3 ∷ 4 ∷ 0 ∷ 0 ∷ 3 ∷ 12 ∷ 14 ∷ 14 ∷ 17 ∷ 22 ∷ 27 ∷ 0 ∷ 0 ∷ [])
+      ∷ (5 ∷ 0 ∷ 4 ∷ 5 ∷ 0 ∷ 0 ∷ 1 ∷ 14 ∷ 20 ∷ 20 ∷ 22 ∷ 27 ∷ 32 ∷ 0 ∷ 0 ∷ [])
+      ∷ [];
+  records =
+      (3 ∷ 2 ∷ 17 ∷ [])
+      ∷ (3 ∷ 3 ∷ 15 ∷ [])
+      ∷ [];
+  counts = 6 ∷ 5 ∷ 4 ∷ 1 ∷ 4 ∷ 32 ∷ [];
+}
+
+-- The same with four stages and times of 0.
+unfoldable pub four-stages : Example
+four-stages = record {
+  stages = 4;
+  flows = 2;
+  blocks =
+      (1 ∷ 0 ∷ 0 ∷ 0 ∷ 4 ∷ 4 ∷ [])
+      ∷ (1 ∷ 0 ∷ 4 ∷ 5 ∷ 0 ∷ 4 ∷ [])
+      ∷ (1 ∷ 1 ∷ 6 ∷ 5 ∷ 5 ∷ 5 ∷ [])
+      ∷ (0 ∷ 1 ∷ 2 ∷ 4 ∷ 5 ∷ 3 ∷ [])
+      ∷ (0 ∷ 5 ∷ 0 ∷ 6 ∷ 1 ∷ 3 ∷ [])
+      ∷ (0 ∷ 8 ∷ 1 ∷ 0 ∷ 0 ∷ 6 ∷ [])
+      ∷ [];
+  limit = 18446744073709551615;
+  rows =
+      (0 ∷ 1 ∷ 1 ∷ 1 ∷ 0 ∷ 0 ∷ 3 ∷ 0 ∷ 0 ∷ 0 ∷ 0 ∷ 0 ∷ 4 ∷ 4 ∷ 8 ∷ [])
+      ∷ (1 ∷ 1 ∷ 2 ∷ 2 ∷ 0 ∷ 4 ∷ 2 ∷ 4 ∷ 8 ∷ 8 ∷ 13 ∷ 13 ∷ 13 ∷ 13 ∷ 17 ∷ [])
+      ∷ (3 ∷ 0 ∷ 3 ∷ 3 ∷ 5 ∷ 0 ∷ 3 ∷ 8 ∷ 10 ∷ 13 ∷ 17 ∷ 17 ∷ 22 ∷ 22 ∷ 25 ∷ [])
+      ∷ (4 ∷ 0 ∷ 3 ∷ 3 ∷ 0 ∷ 0 ∷ 2 ∷ 10 ∷ 10 ∷ 17 ∷ 23 ∷ 23 ∷ 24 ∷ 25 ∷ 28 ∷ [])
+      ∷ (2 ∷ 1 ∷ 3 ∷ 4 ∷ 0 ∷ 3 ∷ 1 ∷ 13 ∷ 19 ∷ 23 ∷ 28 ∷ 28 ∷ 33 ∷ 33 ∷ 38 ∷ [])
+      ∷ (5 ∷ 0 ∷ 4 ∷ 5 ∷ 0 ∷ 3 ∷ 4 ∷ 22 ∷ 23 ∷ 28 ∷ 28 ∷ 33 ∷ 33 ∷ 38 ∷ 44 ∷ [])
+      ∷ [];
+  records =
+      (3 ∷ 2 ∷ 17 ∷ [])
+      ∷ (3 ∷ 3 ∷ 15 ∷ [])
+      ∷ [];
+  counts = 6 ∷ 5 ∷ 4 ∷ 3 ∷ 10 ∷ 44 ∷ [];
+}
+
 unfoldable pub examples : List Example
 examples =
-    E1 ∷ E2 ∷ E3 ∷ E4 ∷ E5 ∷ E6 ∷ E7 ∷ E8 ∷ E9 ∷ E10 ∷ E10-none ∷ E11 ∷ zero-goes-on ∷ excess-of-the-round-before ∷ arrival-at-the-finish ∷ idle-again ∷ []
+    E1 ∷ E2 ∷ E3 ∷ E4 ∷ E5 ∷ E6 ∷ E7 ∷ E8 ∷ E9 ∷ E10 ∷ E10-none ∷ E11 ∷ zero-goes-on ∷ excess-of-the-round-before ∷ arrival-at-the-finish ∷ idle-again ∷ three-stages ∷ four-stages ∷ []
