@@ -23,7 +23,7 @@ enum-told c = search needs
 
 clear-requires : tie.Need-clear-requires
 clear-requires c κs =
-    accepted _ _ _ _ _ (sym (c .before .before .before .test .ensures) ∙ c .before .enum-told .given .1) .1
+    omega (arith, accepted _ _ _ _ _ (sym (c .before .before .before .test .ensures) ∙ c .before .enum-told .given .1) .1)
 
 listed-requires : tie.Need-listed-requires
 listed-requires c κs = search needs

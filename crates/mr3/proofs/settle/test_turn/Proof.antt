@@ -23,13 +23,7 @@ returns c = (λ gate. sym (tested-leaves _ _ _ _ (c .before .oldest .ensures) (c
 
 returns-2 : tie.Need-returns-2
 unfolding oldest state
-returns-2 c = (λ gate. sym (tested-goes-on _ _ _ _ (c .before .before .before .oldest .ensures) (c .before .before .if1 .left) (c .if2 .taken)), (omega arith, omega arith, refl))
-
-sub-excess : tie.Need-sub-excess
-sub-excess c = search needs
-
-rejoin-requires : tie.Need-rejoin-requires
-rejoin-requires c κs = search needs
+returns-2 c = (λ gate. sym (tested-goes-on _ _ _ _ (c .before .before .before .oldest .ensures) (c .before .before .if1 .left) (omega (arith, c .if2 .taken))), (omega arith, omega arith, refl))
 
 returns-3 : tie.Need-returns-3
 unfolding oldest state
@@ -37,9 +31,15 @@ returns-3 c =
     let k = c .before .before .before .before .before .before in (
       λ gate.
           ap (state Idle) (c .rejoin .ensures .0 (k .before .before .before .args .from .now) gate)
-          ∙ sym (tested-rejoins _ _ _ _ (k .oldest .ensures) (c .before .before .before .before .before .if1 .left) (c .before .before .before .if2 .left)),
+          ∙ sym (tested-rejoins _ _ _ _ (k .oldest .ensures) (c .before .before .before .before .before .if1 .left) (omega (arith, c .before .before .before .if2 .left))),
       (omega (arith, c .rejoin .ensures .1 .0, c .rejoin .ensures .1 .1), omega (arith, c .rejoin .ensures .1 .1), c .rejoin .ensures .1 .2),
     )
+
+sub-excess : tie.Need-sub-excess
+sub-excess c = search needs
+
+rejoin-requires : tie.Need-rejoin-requires
+rejoin-requires c κs = search needs
 
 pub test-turn-spec : {M : Type 1} → statement M
 test-turn-spec =
