@@ -10,8 +10,8 @@ use lib.Dec.{eqb}
 use lib.ListN.{length, getD, set, drop, length-set}
 use lib.Seq.{drop-drop, getD-drop, getD-set-same, getD-set-other}
 use Rattle.mr3.specs.declared.list.Entry.{Entry}
-use Rattle.mr3.specs.Storage.{entriesOf}
-use Rattle.mr3.specs.Waiting.{listed, restOf}
+use Rattle.mr3.specs.Storage.{entriesOf, restOf}
+use Rattle.mr3.specs.Waiting.{listed}
 
 -- no entry, or one and the others after its two words
 pub entries-none : (n : ℕ) (s : List ℕ) → n ≤ 0 → entriesOf n s ≡ []

@@ -9,7 +9,7 @@ use Rattle.mr3.specs.declared.state.Mode.{Mode}
 use Rattle.mr3.specs.declared.state.Turn.{Turn}
 use Rattle.mr3.specs.Load.{Load}
 use Rattle.mr3.specs.Plan.{Core, onward, readied, state, tested}
-use Rattle.mr3.specs.Within.{LineWithin}
+use Rattle.mr3.specs.Room.{LineWithin}
 
 pub line-short : (m : Mode) (l : code.Line) → LineWithin m l → l .waiting ≤ l .next
 unfolding LineWithin

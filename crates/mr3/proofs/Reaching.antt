@@ -14,8 +14,9 @@ use Rattle.mr3.specs.declared.state.Planner.{Planner}
 use Rattle.mr3.specs.declared.state.Turn.{Turn}
 use Rattle.mr3.specs.Load.{Load, loadOf}
 use Rattle.mr3.specs.Plan.{Core, settled, started, State}
+use Rattle.mr3.specs.Room.{LineWithin, Settles, Starts, Steps}
 use Rattle.mr3.specs.Storage.{coreOf, stateOf}
-use Rattle.mr3.specs.Within.{Accepted, latest, LineWithin, ModeWithin, mostSpent, Settles, Starts, Steps, WayWithin}
+use Rattle.mr3.specs.Within.{Accepted, latest, ModeWithin, mostSpent, WayWithin}
 use Rattle.mr3.proofs.Bounds.{settled-within}
 use Rattle.mr3.proofs.Entries.{length-entries}
 use Rattle.mr3.proofs.Modes.{line-short}

@@ -18,7 +18,8 @@ use Rattle.mr3.specs.Counts.{counted, Filled, recorded, records, summary
 use Rattle.mr3.specs.Load.{Load}
 use Rattle.mr3.specs.Plan.{origin, rowsFrom, run, Started, State, step}
 use Rattle.mr3.specs.Rows.{rowsWords, rowWords, wayWords}
-use Rattle.mr3.specs.Within.{Accepted, latest, RecordWithin, RowWithin, StateWithin, SummaryWithin, TableWithin}
+use Rattle.mr3.specs.Room.{RecordWithin, SummaryWithin, TableWithin}
+use Rattle.mr3.specs.Within.{Accepted, latest, RowWithin, StateWithin}
 use Rattle.mr3.proofs.Blocks.{dominant-within}
 use Rattle.mr3.proofs.Bounds.{origin-within, step-within}
 use Rattle.mr3.proofs.Tallying.{length-recorded, one-most, recorded-within}

@@ -7,8 +7,7 @@ use Rattle.mr3.specs.declared.list.Entry.{Entry}
 use Rattle.mr3.specs.declared.list.Head.the-variants.{Flow, Empty}
 use Rattle.mr3.specs.declared.list.Head.{Head}
 use Rattle.mr3.specs.declared.state.Core as code
-use Rattle.mr3.specs.Storage.{coreOf, entriesOf}
-use Rattle.mr3.specs.Waiting.{headOf, restOf}
+use Rattle.mr3.specs.Storage.{coreOf, entriesOf, headOf, restOf}
 use Rattle.mr3.proofs.Entries.{entries-none}
 
 module _ (n : ℕ) (s : List ℕ) (h : Head) (answer : h ≡ headOf (entriesOf n s)) where

@@ -13,7 +13,7 @@ use Rattle.load.specs.Dominant.{dominantTime}
 use Rattle.mr3.specs.declared.row.Row.{Row}
 use Rattle.mr3.specs.Counts.{added, one, recorded}
 use Rattle.mr3.specs.Load.{blockAt}
-use Rattle.mr3.specs.Within.{TableWithin}
+use Rattle.mr3.specs.Room.{TableWithin}
 
 pub one-most : (b : Bool) → one b ≤ 1
 unfolding one

@@ -4,6 +4,7 @@ pub mod Counts
 pub mod Examples
 pub mod Load
 pub mod Plan
+pub mod Room
 pub mod Rows
 pub mod Stages
 pub mod Storage

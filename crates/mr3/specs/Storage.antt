@@ -4,6 +4,8 @@ use mathlib.Core.List.{List, [], _∷_}
 use mathlib.Core.Option.{Option, none, some}
 use lib.ListN.{getD, drop}
 use Rattle.mr3.specs.declared.list.Entry.{Entry}
+use Rattle.mr3.specs.declared.list.Head.{Head}
+use Rattle.mr3.specs.declared.list.Head.the-variants.{Flow, Empty}
 use Rattle.mr3.specs.declared.state.Core.{Core}
 use Rattle.mr3.specs.declared.state.Line.{Line}
 use Rattle.mr3.specs.declared.state.Planner.{Planner}
@@ -15,6 +17,15 @@ use Rattle.mr3.specs.Plan as plan
 unfoldable pub entriesOf : ℕ → List ℕ → List Entry
 entriesOf zero s = []
 entriesOf (suc n) s = record { flow = getD s 0 0; excess = getD s 1 0 } ∷ entriesOf n (drop 2 s)
+
+-- the head of the list, as taking it answers, and what stays
+unfoldable pub headOf : List Entry → Head
+headOf [] = Empty
+headOf (e ∷ es) = Flow e
+
+unfoldable pub restOf : List Entry → List Entry
+restOf [] = []
+restOf (e ∷ es) = es
 
 abbrev pub lineOf : Line → List ℕ → plan.Line
 lineOf l list = record { next = l .next; wait = entriesOf (l .waiting) list }

@@ -1,20 +1,13 @@
--- Bounds that the planner keeps, by which the code's sums fit 64 bits and its indices their arrays. They are no part of the plan.
+-- Bounds that the planner keeps, by which its sums fit 64 bits and its indices their arrays. They are no part of the plan.
 use Prim.Native.Nat.{ℕ, _+_, _*_, _≤_, _<_}
 use mathlib.Core.List.{List, [], _∷_}
 use lib.ListN.{length, getD}
 use Rattle.load.specs.declared.block.Block.{Block}
-use Rattle.load.specs.declared.counts.Counts.{Counts}
 use Rattle.mr3.specs.declared.list.Entry.{Entry}
 use Rattle.mr3.specs.declared.row.Row.{Row}
 use Rattle.mr3.specs.declared.stages.Way.{Way}
-use Rattle.mr3.specs.declared.state.HeldFlow.{HeldFlow}
-use Rattle.mr3.specs.declared.state.Core as core
-use Rattle.mr3.specs.declared.state.Line as code
-use Rattle.mr3.specs.declared.state.Planner.{Planner}
-use Rattle.mr3.specs.declared.state.Turn.{Turn}
 use Rattle.mr3.specs.declared.state.Mode.{Mode}
 use Rattle.mr3.specs.declared.state.Mode.the-variants.{Idle, Holds, InTurn}
-use Rattle.mr3.specs.declared.Summary.{Summary}
 use Rattle.mr3.specs.Load.{Load, blockAt}
 use Rattle.mr3.specs.Plan.{Core, State}
 
@@ -81,42 +74,3 @@ pub record RowWithin (L : Load) (k : ℕ) (r : Row) : Type 0 where
   pub flow : r .flow < L .counts .flows
   pub turn : r .turn ≤ k + 1
   pub hold : r .hold ≤ latest k
-
--- The same of the code's numbers, where a step begins.
-unfoldable pub LineWithin : Mode → code.Line → Type 0
-LineWithin Idle l = l .waiting ≤ l .next
-LineWithin (Holds h) l = l .waiting < l .next
-LineWithin (InTurn t) l = (l .waiting < l .next) × (t .flow < 64)
-
-pub record Settles (counts : Counts) (p : Planner) : Type 0 where
-  pub next : p .core .line .next ≤ counts .blocks
-  pub line : LineWithin (p .mode) (p .core .line)
-  pub number : p .core .round .number < 1000000
-
--- where a start is made
-pub record Starts (counts : Counts) (c : core.Core) : Type 0 where
-  pub next : c .line .next ≤ counts .blocks
-  pub line : c .line .waiting ≤ c .line .next
-  pub clock : c .clock ≤ 100_000_000_000
-  pub way : WayWithin (c .way) 100_000_000_000
-
--- a state that so many starts led to
-pub record Steps (L : Load) (s : State) : Type 0 where
-  pub starts : ℕ
-  pub few : starts ≤ 1024
-  pub within : StateWithin L starts s
-
--- room for one block more in a flow's record and in the summary
-pub record RecordWithin (ws : List ℕ) : Type 0 where
-  pub blocks : getD ws 0 0 < 1_000_000
-  pub turns : getD ws 1 0 < 1_000_000
-  pub time : getD ws 2 0 < 1_000_000_000_000_000_000
-
-pub record SummaryWithin (s : Summary) : Type 0 where
-  pub blocks : s .blocks < 1_000_000
-  pub held : s .held < 1_000_000
-  pub ticks : s .ticks < 1_000_000_000_000_000_000
-
--- a flow table that so many rows were counted in
-pub record TableWithin (flows k : ℕ) (ws : List ℕ) : Type 0 where
-  pub each : (f : ℕ) → f < flows → (getD ws (3 * f) 0 ≤ k) × (getD ws (3 * f + 1) 0 ≤ k) × (getD ws (3 * f + 2) 0 ≤ 4_294_967_295 * k)

@@ -3,8 +3,8 @@
 ghost use mathlib.Core.Path.{_≡_};
 ghost use mathlib.Core.List.{[], _∷_, _++_};
 ghost use Prim.Native.Nat.{_+_, _-_, _≤_, _<_};
-ghost use Rattle.mr3.specs.Waiting.{listed, headOf, restOf};
-ghost use Rattle.mr3.specs.Storage.{entriesOf};
+ghost use Rattle.mr3.specs.Storage.{entriesOf, headOf, restOf};
+ghost use Rattle.mr3.specs.Waiting.{listed};
 
 pub struct Entry {
     pub flow: usize,

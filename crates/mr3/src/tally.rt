@@ -5,7 +5,7 @@ ghost use Prim.Native.Nat.{_+_, _*_, _<_, _≤_};
 ghost use lib.ListN.{drop, getD, length, replicate, set};
 ghost use lib.Dec.{ltb};
 ghost use Rattle.mr3.specs.Counts.{added, counted as Counts·counted, one, recorded};
-ghost use Rattle.mr3.specs.Within.{RecordWithin, SummaryWithin};
+ghost use Rattle.mr3.specs.Room.{RecordWithin, SummaryWithin};
 use crate::Summary;
 use crate::row::Row;
 use crate::stages;

@@ -3,8 +3,7 @@ use Prim.Native.Nat.{_+_, _-_}
 use mathlib.Core.Path.{_≡_}
 use native.Mathlib.Omega.{arith}
 use borrow.Author.Needs.{needs}
-use Rattle.mr3.specs.Storage.{entriesOf}
-use Rattle.mr3.specs.Waiting.{headOf, restOf}
+use Rattle.mr3.specs.Storage.{entriesOf, headOf, restOf}
 use Rattle.mr3.proofs.Entries.{entries-first}
 use Rattle.mr3.proofs.list.take.Statement.{statement}
 use Rattle.mr3.proofs.list.take.Tie as tie
