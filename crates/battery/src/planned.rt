@@ -6,7 +6,7 @@ use crate::line;
 use crate::words;
 use load::counts::Counts;
 use load::refusal::Verdict;
-use mr3::Planned;
+use rules::answer::Planned;
 
 struct Parameters {
     limit: u64,

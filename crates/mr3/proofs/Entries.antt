@@ -9,9 +9,9 @@ use native.Mathlib.Omega.{arith}
 use lib.Dec.{eqb}
 use lib.ListN.{length, getD, set, drop, length-set}
 use lib.Seq.{drop-drop, getD-drop, getD-set-same, getD-set-other}
-use Rattle.mr3.specs.declared.list.Entry.{Entry}
+use Rattle.rules.specs.declared.entry.Entry.{Entry}
+use Rattle.rules.specs.Waiting.{listed}
 use Rattle.mr3.specs.Storage.{entriesOf, restOf}
-use Rattle.mr3.specs.Waiting.{listed}
 
 -- no entry, or one and the others after its two words
 pub entries-none : (n : ℕ) (s : List ℕ) → n ≤ 0 → entriesOf n s ≡ []

@@ -2,13 +2,13 @@
 use Prim.Native.Nat.{_≤_, _<_}
 use mathlib.Core.Path.{_≡_, refl}
 use native.Mathlib.Omega.{arith}
-use Rattle.mr3.specs.declared.state.HeldFlow.{HeldFlow}
+use Rattle.rules.specs.declared.mode.HeldFlow.{HeldFlow}
+use Rattle.rules.specs.declared.mode.Mode.the-variants.{Idle, Holds, InTurn}
+use Rattle.rules.specs.declared.mode.Mode.{Mode}
+use Rattle.rules.specs.declared.mode.Turn.{Turn}
+use Rattle.rules.specs.Load.{Load}
+use Rattle.rules.specs.Plan.{Core, onward, readied, state, tested}
 use Rattle.mr3.specs.declared.state.Line as code
-use Rattle.mr3.specs.declared.state.Mode.the-variants.{Idle, Holds, InTurn}
-use Rattle.mr3.specs.declared.state.Mode.{Mode}
-use Rattle.mr3.specs.declared.state.Turn.{Turn}
-use Rattle.mr3.specs.Load.{Load}
-use Rattle.mr3.specs.Plan.{Core, onward, readied, state, tested}
 use Rattle.mr3.specs.Room.{LineWithin}
 
 pub line-short : (m : Mode) (l : code.Line) → LineWithin m l → l .waiting ≤ l .next

@@ -6,18 +6,18 @@ use mathlib.Core.Path.{_≡_, refl}
 use native.Mathlib.Omega.{arith}
 use lib.ListN.{getD}
 use Rattle.load.specs.declared.counts.Counts.{Counts}
-use Rattle.mr3.specs.declared.stages.Way.{Way}
-use Rattle.mr3.specs.declared.state.HeldFlow.{HeldFlow}
-use Rattle.mr3.specs.declared.state.Mode.the-variants.{Idle, Holds, InTurn}
-use Rattle.mr3.specs.declared.state.Mode.{Mode}
+use Rattle.rules.specs.declared.mode.HeldFlow.{HeldFlow}
+use Rattle.rules.specs.declared.mode.Mode.the-variants.{Idle, Holds, InTurn}
+use Rattle.rules.specs.declared.mode.Mode.{Mode}
+use Rattle.rules.specs.declared.mode.Turn.{Turn}
+use Rattle.rules.specs.declared.stages.Way.{Way}
+use Rattle.rules.specs.Load.{Load, loadOf}
+use Rattle.rules.specs.Plan.{Core, settled, started, State}
+use Rattle.rules.specs.Within.{Accepted, latest, ModeWithin, mostSpent, WayWithin}
+use Rattle.rules.proofs.Bounds.{settled-within}
 use Rattle.mr3.specs.declared.state.Planner.{Planner}
-use Rattle.mr3.specs.declared.state.Turn.{Turn}
-use Rattle.mr3.specs.Load.{Load, loadOf}
-use Rattle.mr3.specs.Plan.{Core, settled, started, State}
 use Rattle.mr3.specs.Room.{LineWithin, Settles, Starts, Steps}
 use Rattle.mr3.specs.Storage.{coreOf, stateOf}
-use Rattle.mr3.specs.Within.{Accepted, latest, ModeWithin, mostSpent, WayWithin}
-use Rattle.mr3.proofs.Bounds.{settled-within}
 use Rattle.mr3.proofs.Entries.{length-entries}
 use Rattle.mr3.proofs.Modes.{line-short}
 

@@ -11,17 +11,17 @@ use lib.Dec.{ltb}
 use lib.ListN.{length, take, drop, take-append-drop}
 use lib.Seq.{drop-drop, getD-drop}
 use Rattle.load.proofs.Parts.{drop-over, length-over, over, take-over}
-use Rattle.mr3.specs.declared.Summary.{Summary}
-use Rattle.mr3.specs.declared.row.Row.{Row}
-use Rattle.mr3.specs.Counts as counts
-use Rattle.mr3.specs.Counts.{counted, Filled, recorded, records, summary}
-use Rattle.mr3.specs.Load.{Load}
-use Rattle.mr3.specs.Plan.{origin, rowsFrom, run, Started, State, step}
-use Rattle.mr3.specs.Rows.{rowsWords, rowWords, wayWords}
+use Rattle.rules.specs.declared.answer.Summary.{Summary}
+use Rattle.rules.specs.declared.row.Row.{Row}
+use Rattle.rules.specs.Counts as counts
+use Rattle.rules.specs.Counts.{counted, Filled, recorded, records, summary}
+use Rattle.rules.specs.Load.{Load}
+use Rattle.rules.specs.Plan.{origin, rowsFrom, run, Started, State, step}
+use Rattle.rules.specs.Rows.{rowsWords, rowWords, wayWords}
+use Rattle.rules.specs.Within.{Accepted, latest, RowWithin, StateWithin}
+use Rattle.rules.proofs.Blocks.{dominant-within}
+use Rattle.rules.proofs.Bounds.{origin-within, step-within}
 use Rattle.mr3.specs.Room.{RecordWithin, SummaryWithin, TableWithin}
-use Rattle.mr3.specs.Within.{Accepted, latest, RowWithin, StateWithin}
-use Rattle.mr3.proofs.Blocks.{dominant-within}
-use Rattle.mr3.proofs.Bounds.{origin-within, step-within}
 use Rattle.mr3.proofs.Tallying.{length-recorded, one-most, recorded-within}
 
 run-none : (L : Load) (left : ℕ) (s : State) → left ≤ 0 → run L left s ≡ []

@@ -3,7 +3,7 @@ use Prim.Native.Nat.{ℕ, zero, suc, _-_, _<_}
 use mathlib.Core.List.{List, _∷_}
 use mathlib.Core.Path.{_≡_, refl, sym, ap, _∙_}
 use native.Mathlib.Omega.{arith}
-use Rattle.mr3.specs.declared.list.Entry.{Entry}
+use Rattle.rules.specs.declared.entry.Entry.{Entry}
 use Rattle.mr3.specs.declared.list.Head.the-variants.{Flow, Empty}
 use Rattle.mr3.specs.declared.list.Head.{Head}
 use Rattle.mr3.specs.declared.state.Core as code

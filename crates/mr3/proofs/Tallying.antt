@@ -10,9 +10,9 @@ use lib.Dec.{eqb, ltb}
 use lib.ListN.{length, getD, length-append, length-replicate, replicate, set, take, drop, length-set, take-append-drop}
 use lib.Seq.{drop-set-add, getD-drop, getD-set-other, getD-set-same, take-set-le}
 use Rattle.load.specs.Dominant.{dominantTime}
-use Rattle.mr3.specs.declared.row.Row.{Row}
-use Rattle.mr3.specs.Counts.{added, one, recorded}
-use Rattle.mr3.specs.Load.{blockAt}
+use Rattle.rules.specs.declared.row.Row.{Row}
+use Rattle.rules.specs.Counts.{added, one, recorded}
+use Rattle.rules.specs.Load.{blockAt}
 use Rattle.mr3.specs.Room.{TableWithin}
 
 pub one-most : (b : Bool) → one b ≤ 1

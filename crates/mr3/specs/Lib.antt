@@ -1,12 +1,2 @@
-pub mod Account
-pub mod Calls
-pub mod Counts
-pub mod Examples
-pub mod Load
-pub mod Plan
 pub mod Room
-pub mod Rows
-pub mod Stages
 pub mod Storage
-pub mod Waiting
-pub mod Within

@@ -4,12 +4,12 @@ use Prim.Native.Nat.{ℕ, _+_, _*_, _≤_, _<_}
 use mathlib.Core.List.{List}
 use lib.ListN.{getD}
 use Rattle.load.specs.declared.counts.Counts.{Counts}
-use Rattle.mr3.specs.declared.Summary.{Summary}
-use Rattle.mr3.specs.declared.state.Mode.{Mode}
-use Rattle.mr3.specs.declared.state.Mode.the-variants.{Idle, Holds, InTurn}
-use Rattle.mr3.specs.Load.{Load}
-use Rattle.mr3.specs.Plan.{State}
-use Rattle.mr3.specs.Within.{StateWithin, WayWithin}
+use Rattle.rules.specs.declared.answer.Summary.{Summary}
+use Rattle.rules.specs.declared.mode.Mode.{Mode}
+use Rattle.rules.specs.declared.mode.Mode.the-variants.{Idle, Holds, InTurn}
+use Rattle.rules.specs.Load.{Load}
+use Rattle.rules.specs.Plan.{State}
+use Rattle.rules.specs.Within.{StateWithin, WayWithin}
 use Rattle.mr3.specs.declared.state.Core as core
 use Rattle.mr3.specs.declared.state.Line as code
 use Rattle.mr3.specs.declared.state.Planner.{Planner}

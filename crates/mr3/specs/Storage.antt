@@ -3,7 +3,8 @@ use Prim.Native.Nat.{ℕ, zero, suc}
 use mathlib.Core.List.{List, [], _∷_}
 use mathlib.Core.Option.{Option, none, some}
 use lib.ListN.{getD, drop}
-use Rattle.mr3.specs.declared.list.Entry.{Entry}
+use Rattle.rules.specs.declared.entry.Entry.{Entry}
+use Rattle.rules.specs.Plan as plan
 use Rattle.mr3.specs.declared.list.Head.{Head}
 use Rattle.mr3.specs.declared.list.Head.the-variants.{Flow, Empty}
 use Rattle.mr3.specs.declared.state.Core.{Core}
@@ -11,7 +12,6 @@ use Rattle.mr3.specs.declared.state.Line.{Line}
 use Rattle.mr3.specs.declared.state.Planner.{Planner}
 use Rattle.mr3.specs.declared.step.Next.{Next}
 use Rattle.mr3.specs.declared.step.Next.the-variants.{Start, Done}
-use Rattle.mr3.specs.Plan as plan
 
 -- The list lies in its storage with two words an entry, flow and excess, the head first.
 unfoldable pub entriesOf : ℕ → List ℕ → List Entry

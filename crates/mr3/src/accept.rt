@@ -2,7 +2,7 @@
 ghost use mathlib.Core.Path.{_≡_};
 ghost use Prim.Native.Nat.{_*_, _≤_, min};
 ghost use lib.ListN.{length};
-ghost use Rattle.mr3.specs.Calls.{blocksVerdict, planVerdict, short as Calls·short};
+ghost use Rattle.rules.specs.Calls.{blocksVerdict, planVerdict, short as Calls·short};
 use load::counts::Counts;
 use load::refusal::Refusal;
 use load::refusal::Verdict;

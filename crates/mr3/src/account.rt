@@ -1,15 +1,8 @@
-// The accounts of a round: its number, how many turns of it are to come, its credit, and the largest excess that a turn of it
-// has left so far. They know no time.
+// The accounts of a round. They know no time.
 ghost use mathlib.Core.Path.{_≡_};
 ghost use Prim.Native.Nat.{_<_, _≤_};
-ghost use Rattle.mr3.specs.Account.{called as Account·called, noted as Account·noted};
-
-pub struct Round {
-    pub number: u64,
-    pub left: u64,
-    pub credit: u64,
-    pub most: u64,
-}
+ghost use Rattle.rules.specs.Account.{called as Account·called, noted as Account·noted};
+use rules::round::Round;
 
 // A flow is called to its turn while so many wait: a round opens first where the one before is used up.
 pub fn called(round: Round, waiting: u64) -> Round

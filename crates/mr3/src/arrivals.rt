@@ -3,17 +3,17 @@ ghost use mathlib.Core.Path.{_≡_};
 ghost use mathlib.Core.List.{List};
 ghost use Prim.Native.Nat.{ℕ, _+_, _*_, _-_, _≤_, _<_};
 ghost use lib.ListN.{length};
-ghost use Rattle.mr3.specs.Load.{blockAt, loadOf};
-ghost use Rattle.mr3.specs.Plan.{arrivals, arrived, busy as Plan·busy, upTo};
+ghost use Rattle.rules.specs.Load.{blockAt, loadOf};
+ghost use Rattle.rules.specs.Plan.{arrivals, arrived, busy as Plan·busy, upTo};
+ghost use Rattle.rules.specs.Within.{Accepted};
 ghost use Rattle.mr3.specs.Storage.{coreOf, entriesOf, lineOf};
-ghost use Rattle.mr3.specs.Within.{Accepted};
 use crate::list;
-use crate::list::Entry;
 use crate::list::Storage;
 use crate::state::Core;
 use crate::state::Line;
-use crate::state::Mode;
 use load::counts::Counts;
+use rules::entry::Entry;
+use rules::mode::Mode;
 
 // Whether a flow is held or in its turn.
 fn busy(mode: Mode, flow: usize) -> bool

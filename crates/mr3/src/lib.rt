@@ -1,5 +1,5 @@
-// The planner: one load's timetable by Multi-Resource Round Robin. `specs/Plan.antt` is the definition of the plan.
-ghost use Rattle.mr3.specs.Calls.{Plans};
+// The planner: one load's timetable by Multi-Resource Round Robin. `crates/rules/specs/Plan.antt` is the definition of the plan.
+ghost use Rattle.rules.specs.Calls.{Plans};
 
 mod accept;
 mod account;
@@ -15,24 +15,8 @@ mod step;
 mod tally;
 
 use load::counts::Counts;
-use load::refusal::Refusal;
 use load::refusal::Verdict;
-
-// What is counted of the rows: blocks listed, turns, rounds, turns held, held ticks in sum, and the end.
-pub struct Summary {
-    pub blocks: u64,
-    pub turns: u64,
-    pub rounds: u64,
-    pub held: u64,
-    pub ticks: u64,
-    pub end: u64,
-}
-
-// What the plan call answers.
-pub enum Planned {
-    Refused(Refusal),
-    Plan(Summary),
-}
+use rules::answer::Planned;
 
 // The first `limit` blocks of the plan, or all of them: their rows, the flows' records, and the counts.
 pub fn plan(

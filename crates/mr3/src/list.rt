@@ -3,13 +3,9 @@
 ghost use mathlib.Core.Path.{_≡_};
 ghost use mathlib.Core.List.{[], _∷_, _++_};
 ghost use Prim.Native.Nat.{_+_, _-_, _≤_, _<_};
+ghost use Rattle.rules.specs.Waiting.{listed};
 ghost use Rattle.mr3.specs.Storage.{entriesOf, headOf, restOf};
-ghost use Rattle.mr3.specs.Waiting.{listed};
-
-pub struct Entry {
-    pub flow: usize,
-    pub excess: u64,
-}
+use rules::entry::Entry;
 
 pub enum Head {
     Flow(Entry),

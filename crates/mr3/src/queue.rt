@@ -2,7 +2,7 @@
 ghost use mathlib.Core.Path.{_≡_};
 ghost use Prim.Native.Nat.{_*_, _-_, _≤_};
 ghost use lib.ListN.{length};
-ghost use Rattle.mr3.specs.Load.{seek};
+ghost use Rattle.rules.specs.Load.{seek};
 
 // The first block of a flow from a place of the table on, of those that have arrived; `next`, or where the search began, if
 // there is none.

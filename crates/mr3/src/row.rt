@@ -1,21 +1,10 @@
-// A row of the plan: 15 words of 64 bits.
+// A row of the plan, written as 15 words of 64 bits.
 ghost use mathlib.Core.Path.{_≡_};
 ghost use mathlib.Core.List.{_++_};
 ghost use Prim.Native.Nat.{_≤_};
 ghost use lib.ListN.{drop, length};
-ghost use Rattle.mr3.specs.Rows.{rowWords};
-use crate::stages::Way;
-
-pub struct Row {
-    pub block: u64,
-    pub flow: u64,
-    pub round: u64,
-    pub turn: u64,
-    pub balance: u64,
-    pub hold: u64,
-    pub stage: u64,
-    pub way: Way,
-}
+ghost use Rattle.rules.specs.Rows.{rowWords};
+use rules::row::Row;
 
 // Writes a row at the start of the rest of the lent table.
 pub fn write(rest: &mut [u64], row: Row)

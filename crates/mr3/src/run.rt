@@ -3,27 +3,27 @@ ghost use mathlib.Core.Path.{_≡_};
 ghost use mathlib.Core.List.{List, _++_};
 ghost use Prim.Native.Nat.{ℕ, _*_, _≤_};
 ghost use lib.ListN.{drop, length, replicate};
-ghost use Rattle.mr3.specs.Counts.{Filled};
-ghost use Rattle.mr3.specs.Load.{loadOf};
-ghost use Rattle.mr3.specs.Plan.{origin as Plan·origin, run as Plan·run};
+ghost use Rattle.rules.specs.Counts.{Filled};
+ghost use Rattle.rules.specs.Load.{loadOf};
+ghost use Rattle.rules.specs.Plan.{origin as Plan·origin, run as Plan·run};
+ghost use Rattle.rules.specs.Within.{Accepted, StateWithin};
 ghost use Rattle.mr3.specs.Room.{TableWithin};
 ghost use Rattle.mr3.specs.Storage.{atFirst, stateOf};
-ghost use Rattle.mr3.specs.Within.{Accepted, StateWithin};
-use crate::Summary;
-use crate::account::Round;
 use crate::arrivals;
 use crate::list::Storage;
 use crate::row;
-use crate::stages::Span;
-use crate::stages::Way;
 use crate::state::Core;
 use crate::state::Line;
-use crate::state::Mode;
 use crate::state::Planner;
 use crate::step;
 use crate::step::Next;
 use crate::tally;
 use load::counts::Counts;
+use rules::answer::Summary;
+use rules::mode::Mode;
+use rules::round::Round;
+use rules::stages::Span;
+use rules::stages::Way;
 
 // The core before anything has arrived.
 fn nothing() -> Core

@@ -3,25 +3,25 @@ ghost use mathlib.Core.Path.{_≡_};
 ghost use mathlib.Core.List.{List, _∷_};
 ghost use Prim.Native.Nat.{ℕ, _+_, _*_, _-_, _≤_, _<_};
 ghost use lib.ListN.{length};
-ghost use Rattle.mr3.specs.declared.state.Mode.the-variants.{InTurn};
-ghost use Rattle.mr3.specs.Load.{loadOf};
-ghost use Rattle.mr3.specs.Plan.{onward as Plan·onward, readied, rejoined, settled, taken, tested as Plan·tested};
+ghost use Rattle.rules.specs.declared.mode.Mode.the-variants.{InTurn};
+ghost use Rattle.rules.specs.Load.{loadOf};
+ghost use Rattle.rules.specs.Plan.{onward as Plan·onward, readied, rejoined, settled, taken, tested as Plan·tested};
 ghost use Rattle.mr3.specs.Room.{Settles};
 ghost use Rattle.mr3.specs.Storage.{coreOf, entriesOf, stateOf};
 use crate::account;
 use crate::arrivals;
 use crate::list;
-use crate::list::Entry;
 use crate::list::Head;
 use crate::list::Storage;
 use crate::queue;
 use crate::state::Core;
-use crate::state::HeldFlow;
 use crate::state::Line;
-use crate::state::Mode;
 use crate::state::Planner;
-use crate::state::Turn;
 use load::counts::Counts;
+use rules::entry::Entry;
+use rules::mode::HeldFlow;
+use rules::mode::Mode;
+use rules::mode::Turn;
 
 // The turn ended with a block still waiting: the flow joins the tail with its excess.
 fn rejoin(core: Core, flow: usize, excess: u64, list: &mut Storage) -> Core

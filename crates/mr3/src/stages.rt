@@ -1,23 +1,11 @@
 // A block's way through the stages.
 ghost use mathlib.Core.Path.{_≡_};
 ghost use Prim.Native.Nat.{_≤_, max};
-ghost use Rattle.mr3.specs.Stages.{laterRun, lastRun, wayOf};
-ghost use Rattle.mr3.specs.Within.{WayWithin};
+ghost use Rattle.rules.specs.Stages.{laterRun, lastRun, wayOf};
+ghost use Rattle.rules.specs.Within.{WayWithin};
 use load::block::Block;
-
-// A run at one stage.
-pub struct Span {
-    pub start: u64,
-    pub finish: u64,
-}
-
-// The runs of a block at the four stages; start and finish are 0 at those that the load lacks.
-pub struct Way {
-    pub one: Span,
-    pub two: Span,
-    pub three: Span,
-    pub four: Span,
-}
+use rules::stages::Span;
+use rules::stages::Way;
 
 pub fn later(a: u64, b: u64) -> u64
     ensures { λ r. ⌜ r ≡ max a b ⌝ }

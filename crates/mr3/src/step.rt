@@ -3,24 +3,24 @@ ghost use mathlib.Core.Path.{_≡_};
 ghost use mathlib.Core.List.{List};
 ghost use Prim.Native.Nat.{ℕ, _+_, _*_, _-_, _≤_, _<_};
 ghost use lib.ListN.{getD, length};
-ghost use Rattle.mr3.specs.declared.state.Mode.the-variants.{Holds, InTurn};
-ghost use Rattle.mr3.specs.Load.{blockAt, loadOf};
-ghost use Rattle.mr3.specs.Plan.{after as Plan·after, begins, begun, rowOf, spent, started, step as Plan·step, upTo};
+ghost use Rattle.rules.specs.declared.mode.Mode.the-variants.{Holds, InTurn};
+ghost use Rattle.rules.specs.Load.{blockAt, loadOf};
+ghost use Rattle.rules.specs.Plan.{after as Plan·after, begins, begun, rowOf, spent, started, step as Plan·step, upTo};
+ghost use Rattle.rules.specs.Within.{Accepted, WayWithin};
 ghost use Rattle.mr3.specs.Room.{Starts, Steps};
 ghost use Rattle.mr3.specs.Storage.{coreOf, nextOf, stateOf};
-ghost use Rattle.mr3.specs.Within.{Accepted, WayWithin};
 use crate::arrivals;
 use crate::list::Storage;
 use crate::queue;
-use crate::row::Row;
 use crate::settle;
 use crate::stages;
 use crate::state::Core;
-use crate::state::HeldFlow;
-use crate::state::Mode;
 use crate::state::Planner;
-use crate::state::Turn;
 use load::counts::Counts;
+use rules::mode::HeldFlow;
+use rules::mode::Mode;
+use rules::mode::Turn;
+use rules::row::Row;
 
 // The next start and the planner after it, or that nothing is left to start.
 pub enum Next {

@@ -4,11 +4,11 @@ ghost use mathlib.Core.List.{_++_};
 ghost use Prim.Native.Nat.{_+_, _*_, _<_, _≤_};
 ghost use lib.ListN.{drop, getD, length, replicate, set};
 ghost use lib.Dec.{ltb};
-ghost use Rattle.mr3.specs.Counts.{added, counted as Counts·counted, one, recorded};
+ghost use Rattle.rules.specs.Counts.{added, counted as Counts·counted, one, recorded};
 ghost use Rattle.mr3.specs.Room.{RecordWithin, SummaryWithin};
-use crate::Summary;
-use crate::row::Row;
 use crate::stages;
+use rules::answer::Summary;
+use rules::row::Row;
 
 // The summary with one row more.
 pub fn counted(summary: Summary, stages: usize, row: Row) -> Summary

@@ -4,7 +4,7 @@ ghost use lib.ListN.{length};
 use crate::line;
 use load::refusal::Refusal;
 use load::refusal::Verdict;
-use mr3::Summary;
+use rules::answer::Summary;
 
 pub fn refused(why: Refusal) {
     let mut out = line::empty();

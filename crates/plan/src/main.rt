@@ -5,7 +5,7 @@ mod listing;
 use libc::STDIN_FILENO;
 use load::counts::Counts;
 use loadfile::Answer;
-use mr3::Planned;
+use rules::answer::Planned;
 
 // The plan asks for the first 512 blocks.
 fn plan(file: &[u8], counts: Counts, blocks: &[u32], flows: &mut [u64], rows: &mut [u64]) {

@@ -1,7 +1,7 @@
 -- `mr3::accept::short` meets its contract: at each return the tables tested so far say what `short` is.
 use borrow.Author.Needs.{needs}
 use Rattle.load.proofs.Cases.{by-tests}
-use Rattle.mr3.specs.Calls.{short}
+use Rattle.rules.specs.Calls.{short}
 use Rattle.mr3.proofs.accept.short.Statement.{statement}
 use Rattle.mr3.proofs.accept.short.Tie as tie
 

@@ -5,8 +5,8 @@ use Rattle.load.specs.declared.refusal.Verdict.the-variants.{Accepted}
 use Rattle.load.specs.Refusals.{given}
 use Rattle.load.specs.Tests.{countsVerdict}
 use Rattle.load.proofs.Accepted.{counts-within}
-use Rattle.mr3.specs.Calls.{andThen, planVerdict}
-use Rattle.mr3.proofs.Accepting.{lent}
+use Rattle.rules.specs.Calls.{andThen, planVerdict}
+use Rattle.rules.proofs.Accepting.{lent}
 use Rattle.mr3.proofs.accept.test.Statement.{statement}
 use Rattle.mr3.proofs.accept.test.Tie as tie
 

@@ -5,8 +5,8 @@ use native.Mathlib.Omega.{arith}
 use borrow.Author.Needs.{needs}
 use lib.ListN.{length-drop, drop}
 use Rattle.load.proofs.Parts.{part-rest}
-use Rattle.mr3.specs.Calls.{blocksVerdict}
-use Rattle.mr3.proofs.Accepting.{blocks-end, blocks-next, blocks-refused}
+use Rattle.rules.specs.Calls.{blocksVerdict}
+use Rattle.rules.proofs.Accepting.{blocks-end, blocks-next, blocks-refused}
 use Rattle.mr3.proofs.accept.test_blocks.Statement.{statement}
 use Rattle.mr3.proofs.accept.test_blocks.Tie as tie
 

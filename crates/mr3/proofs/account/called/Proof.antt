@@ -1,7 +1,7 @@
 -- `mr3::account::called` meets its contract: the round used up is the test of `opened`, and a turn is taken off whichever round stands.
 use borrow.Author.Needs.{needs}
 use Rattle.load.proofs.Cases.{by-tests}
-use Rattle.mr3.specs.Account.{called, opened, used}
+use Rattle.rules.specs.Account.{called, opened, used}
 use Rattle.mr3.proofs.account.called.Statement.{statement}
 use Rattle.mr3.proofs.account.called.Tie as tie
 

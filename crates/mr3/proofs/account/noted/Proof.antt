@@ -1,6 +1,6 @@
 -- `mr3::account::noted` meets its contract: the larger of the two by one comparison.
 use native.Mathlib.Nat.{max-eq-left, max-eq-right, le-of-lt}
-use Rattle.mr3.specs.Account.{noted}
+use Rattle.rules.specs.Account.{noted}
 use Rattle.mr3.proofs.account.noted.Statement.{statement}
 use Rattle.mr3.proofs.account.noted.Tie as tie
 

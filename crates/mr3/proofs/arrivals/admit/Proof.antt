@@ -3,10 +3,10 @@ use Prim.Native.Nat.{_-_, _≤_}
 use mathlib.Core.Path.{_≡_, refl, sym, _∙_}
 use native.Mathlib.Omega.{arith}
 use Rattle.load.specs.declared.counts.Counts.{Counts}
-use Rattle.mr3.specs.Load.{loadOf}
-use Rattle.mr3.specs.Plan.{arrivals}
+use Rattle.rules.specs.Load.{loadOf}
+use Rattle.rules.specs.Plan.{arrivals}
+use Rattle.rules.proofs.Arriving.{arrivals-late, arrivals-none, arrivals-step}
 use Rattle.mr3.specs.Storage.{entriesOf}
-use Rattle.mr3.proofs.Arriving.{arrivals-late, arrivals-none, arrivals-step}
 use Rattle.mr3.proofs.arrivals.admit.Statement.{statement}
 use Rattle.mr3.proofs.arrivals.admit.Tie as tie
 

@@ -4,7 +4,7 @@ use native.Mathlib.Omega.{arith}
 use borrow.Author.Needs.{needs}
 use lib.Seq.{getD-drop}
 use Rattle.load.specs.Blocks.{blockOf}
-use Rattle.mr3.specs.Load.{blockAt}
+use Rattle.rules.specs.Load.{blockAt}
 use Rattle.mr3.proofs.arrivals.arrival.Statement.{statement}
 use Rattle.mr3.proofs.arrivals.arrival.Tie as tie
 

@@ -1,7 +1,7 @@
 -- `mr3::arrivals::arrive` meets its contract: the flow is busy, or listed, or joins.
 use native.Mathlib.Omega.{arith}
 use borrow.Author.Needs.{needs}
-use Rattle.mr3.specs.Plan.{arrived}
+use Rattle.rules.specs.Plan.{arrived}
 use Rattle.mr3.proofs.arrivals.arrive.Statement.{statement}
 use Rattle.mr3.proofs.arrivals.arrive.Tie as tie
 

@@ -1,6 +1,6 @@
 -- `mr3::arrivals::busy` meets its contract, mode by mode.
 use borrow.Author.Needs.{needs}
-use Rattle.mr3.specs.Plan.{busy}
+use Rattle.rules.specs.Plan.{busy}
 use Rattle.mr3.proofs.arrivals.busy.Statement.{statement}
 use Rattle.mr3.proofs.arrivals.busy.Tie as tie
 

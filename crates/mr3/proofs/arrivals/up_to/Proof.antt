@@ -1,7 +1,7 @@
 -- `mr3::arrivals::up_to` meets its contract: the line is `admit`'s, and all else but the clock stays.
 use mathlib.Core.Path.{ap, refl}
 use borrow.Author.Needs.{needs}
-use Rattle.mr3.specs.Plan.{Line, upTo}
+use Rattle.rules.specs.Plan.{Line, upTo}
 use Rattle.mr3.proofs.arrivals.up_to.Statement.{statement}
 use Rattle.mr3.proofs.arrivals.up_to.Tie as tie
 

@@ -5,8 +5,8 @@ use native.Mathlib.Omega.{arith}
 use borrow.Author.Needs.{needs}
 use lib.ListN.{drop}
 use Rattle.load.proofs.Cases.{by-tests}
+use Rattle.rules.specs.Waiting.{listed}
 use Rattle.mr3.specs.Storage.{entriesOf}
-use Rattle.mr3.specs.Waiting.{listed}
 use Rattle.mr3.proofs.Entries.{listed-step, entries-none}
 use Rattle.mr3.proofs.list.has.Statement.{statement}
 use Rattle.mr3.proofs.list.has.Tie as tie

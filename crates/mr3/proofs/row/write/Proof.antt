@@ -3,7 +3,7 @@ use native.Mathlib.Omega.{arith}
 use borrow.Author.Needs.{needs}
 use lib.ListN.{length-set}
 use lib.Seq.{sets-eq}
-use Rattle.mr3.specs.Rows.{rowWords, wayWords}
+use Rattle.rules.specs.Rows.{rowWords, wayWords}
 use Rattle.mr3.proofs.row.write.Statement.{statement}
 use Rattle.mr3.proofs.row.write.Tie as tie
 

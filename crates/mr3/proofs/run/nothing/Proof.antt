@@ -1,6 +1,6 @@
 -- `mr3::run::nothing` meets its contract: the numbers as they stand.
 use borrow.Author.Needs.{needs}
-use Rattle.mr3.specs.Plan.{none-yet}
+use Rattle.rules.specs.Plan.{none-yet}
 use Rattle.mr3.specs.Storage.{atFirst}
 use Rattle.mr3.proofs.run.nothing.Statement.{statement}
 use Rattle.mr3.proofs.run.nothing.Tie as tie

@@ -3,8 +3,8 @@ use mathlib.Core.Path.{ap}
 use native.Mathlib.Omega.{arith}
 use borrow.Author.Needs.{needs}
 use lib.ListN.{replicate}
-use Rattle.mr3.specs.declared.state.Mode.the-variants.{Idle}
-use Rattle.mr3.specs.Plan.{origin, state}
+use Rattle.rules.specs.declared.mode.Mode.the-variants.{Idle}
+use Rattle.rules.specs.Plan.{origin, state}
 use Rattle.mr3.specs.Storage.{atFirst, entriesOf}
 use Rattle.mr3.proofs.run.origin.Statement.{statement}
 use Rattle.mr3.proofs.run.origin.Tie as tie

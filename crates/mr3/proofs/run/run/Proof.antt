@@ -7,14 +7,14 @@ use native.Mathlib.Omega.{arith}
 use borrow.Author.Needs.{needs}
 use lib.ListN.{length-drop}
 use Rattle.load.proofs.Parts.{part-rest, put-over}
-use Rattle.mr3.specs.declared.row.Row.{Row}
+use Rattle.rules.specs.declared.row.Row.{Row}
+use Rattle.rules.specs.Counts as counts
+use Rattle.rules.specs.Load.{Load, loadOf}
+use Rattle.rules.specs.Plan.{run, State, step}
+use Rattle.rules.specs.Rows.{rowWords}
 use Rattle.mr3.specs.declared.state.Planner.{Planner}
 use Rattle.mr3.specs.declared.step.Next.the-variants.{Start, Done}
 use Rattle.mr3.specs.declared.step.Next.{Next}
-use Rattle.mr3.specs.Counts as counts
-use Rattle.mr3.specs.Load.{Load, loadOf}
-use Rattle.mr3.specs.Plan.{run, State, step}
-use Rattle.mr3.specs.Rows.{rowWords}
 use Rattle.mr3.specs.Storage.{nextOf, stateOf}
 use Rattle.mr3.proofs.Running.{record-within, row-long, row-room, row-within, Running, running-done, running-first, running-step, running-stops, summary-within}
 use Rattle.mr3.proofs.run.run.Statement.{statement}

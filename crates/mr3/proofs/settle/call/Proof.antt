@@ -4,7 +4,7 @@ use mathlib.Core.Path.{_≡_}
 use native.Mathlib.Omega.{arith}
 use borrow.Author.Needs.{needs}
 use lib.ListN.{length}
-use Rattle.mr3.specs.Plan.{state, taken, withLine, withRound}
+use Rattle.rules.specs.Plan.{state, taken, withLine, withRound}
 use Rattle.mr3.specs.Storage.{entriesOf}
 use Rattle.mr3.proofs.Entries.{length-entries}
 use Rattle.mr3.proofs.settle.call.Statement.{statement}

@@ -1,7 +1,7 @@
 -- `mr3::settle::onward` meets its contract, mode by mode.
 use mathlib.Core.Path.{sym, _∙_}
 use borrow.Author.Needs.{needs}
-use Rattle.mr3.specs.Plan.{state}
+use Rattle.rules.specs.Plan.{state}
 use Rattle.mr3.proofs.Modes.{onward-held, onward-idle, onward-turn}
 use Rattle.mr3.proofs.settle.onward.Statement.{statement}
 use Rattle.mr3.proofs.settle.onward.Tie as tie

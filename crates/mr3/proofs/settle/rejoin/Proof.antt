@@ -1,9 +1,9 @@
 -- `mr3::settle::rejoin` meets its contract: the list is `join`'s and the round `noted`'s.
 use mathlib.Core.Path.{ap, refl}
 use borrow.Author.Needs.{needs}
-use Rattle.mr3.specs.declared.account.Round.{Round}
-use Rattle.mr3.specs.Account.{noted}
-use Rattle.mr3.specs.Plan.{rejoined, withLine, withRound}
+use Rattle.rules.specs.declared.round.Round.{Round}
+use Rattle.rules.specs.Account.{noted}
+use Rattle.rules.specs.Plan.{rejoined, withLine, withRound}
 use Rattle.mr3.proofs.settle.rejoin.Statement.{statement}
 use Rattle.mr3.proofs.settle.rejoin.Tie as tie
 

@@ -1,8 +1,8 @@
 -- `mr3::settle::settle` meets its contract: the turn is tested, and then an idle planner takes the next flow.
 use mathlib.Core.Path.{ap, _∙_}
 use borrow.Author.Needs.{needs}
-use Rattle.mr3.specs.Load.{loadOf}
-use Rattle.mr3.specs.Plan.{onward, settled, State}
+use Rattle.rules.specs.Load.{loadOf}
+use Rattle.rules.specs.Plan.{onward, settled, State}
 use Rattle.mr3.proofs.settle.settle.Statement.{statement}
 use Rattle.mr3.proofs.settle.settle.Tie as tie
 

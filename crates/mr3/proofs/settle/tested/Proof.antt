@@ -1,7 +1,7 @@
 -- `mr3::settle::tested` meets its contract, mode by mode.
 use mathlib.Core.Path.{refl, sym, _∙_}
 use borrow.Author.Needs.{needs}
-use Rattle.mr3.specs.Plan.{state}
+use Rattle.rules.specs.Plan.{state}
 use Rattle.mr3.proofs.Modes.{line-in-turn, line-short, tested-held, tested-idle, tested-turn}
 use Rattle.mr3.proofs.settle.tested.Statement.{statement}
 use Rattle.mr3.proofs.settle.tested.Tie as tie

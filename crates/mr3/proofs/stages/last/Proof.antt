@@ -1,6 +1,6 @@
 -- `mr3::stages::last` meets its contract: the stages are tried from the first on, as `runAt` tries them.
 use Rattle.load.proofs.Cases.{by-tests}
-use Rattle.mr3.specs.Stages.{lastRun, runAt}
+use Rattle.rules.specs.Stages.{lastRun, runAt}
 use Rattle.mr3.proofs.stages.last.Statement.{statement}
 use Rattle.mr3.proofs.stages.last.Tie as tie
 

@@ -1,6 +1,6 @@
 -- `mr3::stages::run_at` meets its contract: `later` is the larger of the two ticks, and a stage that the load lacks has no run.
 use borrow.Author.Needs.{needs}
-use Rattle.mr3.specs.Stages.{laterRun}
+use Rattle.rules.specs.Stages.{laterRun}
 use Rattle.mr3.proofs.stages.run_at.Statement.{statement}
 use Rattle.mr3.proofs.stages.run_at.Tie as tie
 

@@ -3,9 +3,9 @@ use Prim.Native.Nat.{_+_}
 use mathlib.Core.Path.{ap}
 use borrow.Author.Needs.{needs}
 use lib.ListN.{set}
-use Rattle.mr3.specs.declared.state.Mode.the-variants.{InTurn}
-use Rattle.mr3.specs.Load.{blockAt}
-use Rattle.mr3.specs.Plan.{after, spent, state}
+use Rattle.rules.specs.declared.mode.Mode.the-variants.{InTurn}
+use Rattle.rules.specs.Load.{blockAt}
+use Rattle.rules.specs.Plan.{after, spent, state}
 use Rattle.mr3.proofs.step.after.Statement.{statement}
 use Rattle.mr3.proofs.step.after.Tie as tie
 

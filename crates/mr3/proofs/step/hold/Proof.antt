@@ -1,6 +1,6 @@
 -- `mr3::step::hold` meets its contract: the clock moves to the end of the hold, and the turn begins there.
 use borrow.Author.Needs.{needs}
-use Rattle.mr3.specs.Plan.{heldUntil, started, turnOf}
+use Rattle.rules.specs.Plan.{heldUntil, started, turnOf}
 use Rattle.mr3.proofs.step.hold.Statement.{statement}
 use Rattle.mr3.proofs.step.hold.Tie as tie
 

@@ -3,7 +3,7 @@ use mathlib.Core.List.{[]}
 use mathlib.Core.Path.{ap}
 use native.Mathlib.Omega.{arith}
 use borrow.Author.Needs.{needs}
-use Rattle.mr3.specs.Plan.{begun, Core, upTo}
+use Rattle.rules.specs.Plan.{begun, Core, upTo}
 use Rattle.mr3.proofs.step.hold_until.Statement.{statement}
 use Rattle.mr3.proofs.step.hold_until.Tie as tie
 

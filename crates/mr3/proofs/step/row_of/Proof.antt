@@ -1,8 +1,8 @@
 -- `mr3::step::row_of` meets its contract: each field is what the definition's row has.
 use borrow.Author.Needs.{needs}
 use Rattle.load.proofs.Parts.{part-rest}
-use Rattle.mr3.specs.Load.{blockAt}
-use Rattle.mr3.specs.Plan.{rowOf}
+use Rattle.rules.specs.Load.{blockAt}
+use Rattle.rules.specs.Plan.{rowOf}
 use Rattle.mr3.proofs.step.row_of.Statement.{statement}
 use Rattle.mr3.proofs.step.row_of.Tie as tie
 

@@ -3,8 +3,8 @@ use mathlib.Core.Path.{ap, refl, _∙_}
 use borrow.Author.Needs.{needs}
 use Rattle.load.specs.Dominant.{dominantTime}
 use Rattle.load.proofs.Parts.{part-rest}
-use Rattle.mr3.specs.Load.{blockAt}
-use Rattle.mr3.specs.Plan.{spent}
+use Rattle.rules.specs.Load.{blockAt}
+use Rattle.rules.specs.Plan.{spent}
 use Rattle.mr3.proofs.step.spend.Statement.{statement}
 use Rattle.mr3.proofs.step.spend.Tie as tie
 

@@ -1,8 +1,8 @@
 -- `mr3::step::step` meets its contract: the settled state's mode picks the start, and its bounds are those that each start asks.
 use mathlib.Core.Path.{ap, sym, _∙_}
 use borrow.Author.Needs.{needs}
-use Rattle.mr3.specs.Load.{loadOf}
-use Rattle.mr3.specs.Plan.{started, State, step}
+use Rattle.rules.specs.Load.{loadOf}
+use Rattle.rules.specs.Plan.{started, State, step}
 use Rattle.mr3.specs.Storage.{nextOf, stateOf}
 use Rattle.mr3.proofs.Reaching.{few-turns, held-within, settled-steps, settles, started-at, started-idle, starting, turn-within}
 use Rattle.mr3.proofs.step.step.Statement.{statement}

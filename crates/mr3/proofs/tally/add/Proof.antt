@@ -7,7 +7,7 @@ use borrow.Author.Needs.{needs}
 use borrow.Author.Tests.{eqb-false}
 use lib.ListN.{getD, set, length-set}
 use lib.Seq.{getD-set-other}
-use Rattle.mr3.specs.Counts.{added}
+use Rattle.rules.specs.Counts.{added}
 use Rattle.mr3.proofs.tally.add.Statement.{statement}
 use Rattle.mr3.proofs.tally.add.Tie as tie
 

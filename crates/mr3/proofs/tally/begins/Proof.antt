@@ -1,7 +1,7 @@
 -- `mr3::tally::begins` meets its contract: one turn, or none.
 use native.Mathlib.Omega.{arith}
 use Rattle.load.proofs.Cases.{by-tests}
-use Rattle.mr3.specs.Counts.{one}
+use Rattle.rules.specs.Counts.{one}
 use Rattle.mr3.proofs.tally.begins.Statement.{statement}
 use Rattle.mr3.proofs.tally.begins.Tie as tie
 

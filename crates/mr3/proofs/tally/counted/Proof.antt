@@ -3,7 +3,7 @@ use mathlib.Core.Logic.{⊎-elim}
 use native.Mathlib.Nat.{add-zero}
 use borrow.Author.Needs.{needs}
 use borrow.Author.Tests.{le-ltb, lt-ltb}
-use Rattle.mr3.specs.Counts.{counted, one}
+use Rattle.rules.specs.Counts.{counted, one}
 use Rattle.mr3.proofs.tally.counted.Statement.{statement}
 use Rattle.mr3.proofs.tally.counted.Tie as tie
 

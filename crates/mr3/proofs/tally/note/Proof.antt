@@ -6,8 +6,8 @@ use borrow.Author.Needs.{needs}
 use lib.ListN.{length-drop}
 use Rattle.load.specs.Dominant.{dominantTime}
 use Rattle.load.proofs.Parts.{part-rest, put-rest}
-use Rattle.mr3.specs.Counts.{recorded}
-use Rattle.mr3.specs.Load.{blockAt}
+use Rattle.rules.specs.Counts.{recorded}
+use Rattle.rules.specs.Load.{blockAt}
 use Rattle.mr3.proofs.tally.note.Statement.{statement}
 use Rattle.mr3.proofs.tally.note.Tie as tie
 

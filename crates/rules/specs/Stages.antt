@@ -3,8 +3,8 @@ use Prim.Native.Nat.{ℕ, _+_, max}
 use mathlib.Core.Bool.{Bool, cond}
 use lib.Dec.{eqb, ltb}
 use Rattle.load.specs.declared.block.Block.{Block}
-use Rattle.mr3.specs.declared.stages.Span.{Span}
-use Rattle.mr3.specs.declared.stages.Way.{Way}
+use Rattle.rules.specs.declared.stages.Span.{Span}
+use Rattle.rules.specs.declared.stages.Way.{Way}
 
 -- At a later stage a block starts at the greater of its own finish at the stage before and the previous block's finish at this
 -- one. Finish is start plus time. (0 for a stage that the load lacks.)

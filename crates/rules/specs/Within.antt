@@ -3,13 +3,13 @@ use Prim.Native.Nat.{ℕ, _+_, _*_, _≤_, _<_}
 use mathlib.Core.List.{List, [], _∷_}
 use lib.ListN.{length, getD}
 use Rattle.load.specs.declared.block.Block.{Block}
-use Rattle.mr3.specs.declared.list.Entry.{Entry}
-use Rattle.mr3.specs.declared.row.Row.{Row}
-use Rattle.mr3.specs.declared.stages.Way.{Way}
-use Rattle.mr3.specs.declared.state.Mode.{Mode}
-use Rattle.mr3.specs.declared.state.Mode.the-variants.{Idle, Holds, InTurn}
-use Rattle.mr3.specs.Load.{Load, blockAt}
-use Rattle.mr3.specs.Plan.{Core, State}
+use Rattle.rules.specs.declared.entry.Entry.{Entry}
+use Rattle.rules.specs.declared.mode.Mode.{Mode}
+use Rattle.rules.specs.declared.mode.Mode.the-variants.{Idle, Holds, InTurn}
+use Rattle.rules.specs.declared.row.Row.{Row}
+use Rattle.rules.specs.declared.stages.Way.{Way}
+use Rattle.rules.specs.Load.{Load, blockAt}
+use Rattle.rules.specs.Plan.{Core, State}
 
 -- What acceptance says of each block.
 pub record BlockWithin (flows : ℕ) (b : Block) : Type 0 where

@@ -5,10 +5,10 @@ use mathlib.Core.Path.{_≡_, refl, sym}
 use native.Mathlib.Numerals.{sub-one}
 use native.Mathlib.Omega.{arith}
 use borrow.Author.Tests.{le-leb, lt-leb}
-use Rattle.mr3.specs.declared.list.Entry.{Entry}
-use Rattle.mr3.specs.declared.state.Mode.{Mode}
-use Rattle.mr3.specs.Load.{Load, blockAt}
-use Rattle.mr3.specs.Plan.{Line, arrivals, arrived}
+use Rattle.rules.specs.declared.entry.Entry.{Entry}
+use Rattle.rules.specs.declared.mode.Mode.{Mode}
+use Rattle.rules.specs.Load.{Load, blockAt}
+use Rattle.rules.specs.Plan.{Line, arrivals, arrived}
 
 module _ (L : Load) (m : Mode) (t : ℕ) (l : Line) where
   pub arrivals-none : (left : ℕ) → left ≤ 0 → arrivals L left m t l ≡ l
@@ -27,7 +27,7 @@ module _ (L : Load) (m : Mode) (t : ℕ) (l : Line) where
   arrivals-next zero h due = absurd (omega arith)
   arrivals-next (suc k) h due = rw (sub-one, le-leb (blockAt (L .table) (l .next) .arrival) t due) refl
 
--- one turn of the loop: a block of flow f is taken, and the list is then w′
+-- one turn of a loop: a block of flow f is taken, and the list is then w′
 pub arrivals-step : (L : Load) (m : Mode) (t end next : ℕ) (w w′ : List Entry) (f : ℕ) → next < end → blockAt (L .table) next .arrival ≤ t
     → f ≡ blockAt (L .table) next .flow → w′ ≡ arrived m f w
     → arrivals L (end - (next + 1)) m t (record { next = next + 1; wait = w′ }) ≡ arrivals L (end - next) m t (record { next = next; wait = w })

@@ -6,9 +6,9 @@ use mathlib.Core.Path.{_≡_, refl}
 use Rattle.load.specs.declared.counts.Counts.{Counts}
 use Rattle.load.specs.declared.refusal.Verdict.{Verdict}
 use Rattle.load.specs.declared.refusal.Verdict.the-variants as verdict
-use Rattle.mr3.specs.declared.Planned.{Planned}
-use Rattle.mr3.specs.Calls.{answerNumber, answerOf, answerSummary, flowsAfter, Plans, planVerdict, rowsAfter}
-use Rattle.mr3.specs.Counts.{none}
+use Rattle.rules.specs.declared.answer.Planned.{Planned}
+use Rattle.rules.specs.Calls.{answerNumber, answerOf, answerSummary, flowsAfter, Plans, planVerdict, rowsAfter}
+use Rattle.rules.specs.Counts.{none}
 
 pub plan-refuses : (c : Counts) (n : ℕ) (table flows rows : List ℕ) (answer : Planned) (flowsThen rowsThen : List ℕ)
     → Plans c n table flows rows answer flowsThen rowsThen → (answerNumber answer ≡ 0 → ⊥)

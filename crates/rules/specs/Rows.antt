@@ -2,8 +2,8 @@
 -- for four stages (0 for stages the load lacks).
 use Prim.Native.Nat.{ℕ}
 use mathlib.Core.List.{List, [], _∷_, _++_}
-use Rattle.mr3.specs.declared.row.Row.{Row}
-use Rattle.mr3.specs.declared.stages.Way.{Way}
+use Rattle.rules.specs.declared.row.Row.{Row}
+use Rattle.rules.specs.declared.stages.Way.{Way}
 
 unfoldable pub wayWords : Way → List ℕ
 wayWords w =

@@ -9,18 +9,18 @@ use borrow.Author.Tests.{ltb-true}
 use lib.Dec.{leb, ltb}
 use lib.ListN.{getD, length, length-append}
 use Rattle.load.specs.declared.block.Block.{Block}
-use Rattle.mr3.specs.declared.list.Entry.{Entry}
-use Rattle.mr3.specs.declared.stages.Way.{Way}
-use Rattle.mr3.specs.declared.state.Mode.the-variants.{Idle, Holds, InTurn}
-use Rattle.mr3.specs.declared.state.Mode.{Mode}
-use Rattle.mr3.specs.declared.state.Turn.{Turn}
-use Rattle.mr3.specs.Account.{noted}
-use Rattle.mr3.specs.Load.{Load, blockAt}
-use Rattle.mr3.specs.Plan.{Core, Started, State, after, begun, first, further, heldUntil, none-yet, oldest, onward, origin, readied, rejoined, rowOf, begins, settled, spent, started, state, step, taken, tested, turnOf, upTo, waits, where-waits, withLine, withRound, woken}
-use Rattle.mr3.specs.Stages.{lastRun, wayOf}
-use Rattle.mr3.specs.Within.{Accepted, BlockWithin, CoreWithin, EntriesWithin, latest, ModeWithin, mostSpent, RowWithin, StateWithin, WayWithin}
-use Rattle.mr3.proofs.Blocks.{dominant-within, gate-set, getD-zeros, oldest-own, way-within}
-use Rattle.mr3.proofs.Waiting.{Grown, arrivals-within, by-test, called-within, entries-joined, entries-later}
+use Rattle.rules.specs.declared.entry.Entry.{Entry}
+use Rattle.rules.specs.declared.mode.Mode.the-variants.{Idle, Holds, InTurn}
+use Rattle.rules.specs.declared.mode.Mode.{Mode}
+use Rattle.rules.specs.declared.mode.Turn.{Turn}
+use Rattle.rules.specs.declared.stages.Way.{Way}
+use Rattle.rules.specs.Account.{noted}
+use Rattle.rules.specs.Load.{Load, blockAt}
+use Rattle.rules.specs.Plan.{Core, Started, State, after, begun, first, further, heldUntil, none-yet, oldest, onward, origin, readied, rejoined, rowOf, begins, settled, spent, started, state, step, taken, tested, turnOf, upTo, waits, where-waits, withLine, withRound, woken}
+use Rattle.rules.specs.Stages.{lastRun, wayOf}
+use Rattle.rules.specs.Within.{Accepted, BlockWithin, CoreWithin, EntriesWithin, latest, ModeWithin, mostSpent, RowWithin, StateWithin, WayWithin}
+use Rattle.rules.proofs.Blocks.{dominant-within, gate-set, getD-zeros, oldest-own, way-within}
+use Rattle.rules.proofs.Waiting.{Grown, arrivals-within, by-test, called-within, entries-joined, entries-later}
 
 -- what holds of a start that is made where a test says so
 pub where-some : (P : Started → Type 0) (b : Bool) (s q : Started) → cond b (some s) none ≡ some q → (b ≡ true → P s) → P q

@@ -3,7 +3,7 @@ use Prim.Native.Nat.{ℕ}
 use mathlib.Core.Bool.{Bool, false, _||_}
 use mathlib.Core.List.{List, [], _∷_}
 use lib.Dec.{eqb}
-use Rattle.mr3.specs.declared.list.Entry.{Entry}
+use Rattle.rules.specs.declared.entry.Entry.{Entry}
 
 unfoldable pub listed : ℕ → List Entry → Bool
 listed f [] = false

@@ -12,14 +12,14 @@ use Rattle.load.specs.declared.refusal.Verdict.the-variants as verdict
 use Rattle.load.specs.Blocks.{blockOf}
 use Rattle.load.specs.Refusals.{given, numberOf}
 use Rattle.load.specs.Tests.{blockVerdict, countsVerdict}
-use Rattle.mr3.specs.declared.row.Row.{Row}
-use Rattle.mr3.specs.declared.Summary.{Summary}
-use Rattle.mr3.specs.declared.Planned.{Planned}
-use Rattle.mr3.specs.declared.Planned.the-variants.{Refused, Plan}
-use Rattle.mr3.specs.Counts.{none, records, summary}
-use Rattle.mr3.specs.Load.{loadOf}
-use Rattle.mr3.specs.Plan.{plan}
-use Rattle.mr3.specs.Rows.{rowsWords}
+use Rattle.rules.specs.declared.answer.Planned.{Planned}
+use Rattle.rules.specs.declared.answer.Planned.the-variants.{Refused, Plan}
+use Rattle.rules.specs.declared.answer.Summary.{Summary}
+use Rattle.rules.specs.declared.row.Row.{Row}
+use Rattle.rules.specs.Counts.{none, records, summary}
+use Rattle.rules.specs.Load.{loadOf}
+use Rattle.rules.specs.Plan.{plan}
+use Rattle.rules.specs.Rows.{rowsWords}
 
 -- the first refusal, if there is one
 unfoldable pub andThen : Verdict → Verdict → Verdict

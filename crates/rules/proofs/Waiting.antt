@@ -6,14 +6,14 @@ use mathlib.Core.Path.{_≡_, refl}
 use native.Mathlib.Omega.{arith}
 use lib.Dec.{eqb, leb}
 use lib.ListN.{length, length-append}
-use Rattle.mr3.specs.declared.account.Round.{Round}
-use Rattle.mr3.specs.declared.list.Entry.{Entry}
-use Rattle.mr3.specs.declared.state.Mode.{Mode}
-use Rattle.mr3.specs.Account.{called, opened, used}
-use Rattle.mr3.specs.Load.{Load, blockAt}
-use Rattle.mr3.specs.Plan.{Line, arrivals, arrived, busy}
-use Rattle.mr3.specs.Waiting.{listed}
-use Rattle.mr3.specs.Within.{Accepted, EntriesWithin, mostSpent}
+use Rattle.rules.specs.declared.entry.Entry.{Entry}
+use Rattle.rules.specs.declared.mode.Mode.{Mode}
+use Rattle.rules.specs.declared.round.Round.{Round}
+use Rattle.rules.specs.Account.{called, opened, used}
+use Rattle.rules.specs.Load.{Load, blockAt}
+use Rattle.rules.specs.Plan.{Line, arrivals, arrived, busy}
+use Rattle.rules.specs.Waiting.{listed}
+use Rattle.rules.specs.Within.{Accepted, EntriesWithin, mostSpent}
 
 -- what holds in both cases of a test
 pub by-test : {A : Type 0} (P : A → Type 0) (b : Bool) {x y : A} → (b ≡ true → P x) → (b ≡ false → P y) → P (cond b x y)

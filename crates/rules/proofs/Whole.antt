@@ -11,24 +11,24 @@ use lib.Dec.{eqb, leb, ltb}
 use lib.ListN.{getD, length, length-set, set}
 use Rattle.load.specs.declared.counts.Counts.{Counts}
 use Rattle.load.specs.declared.refusal.Verdict.the-variants as verdict
-use Rattle.mr3.specs.declared.list.Entry.{Entry}
-use Rattle.mr3.specs.declared.row.Row.{Row}
-use Rattle.mr3.specs.declared.state.HeldFlow.{HeldFlow}
-use Rattle.mr3.specs.declared.state.Mode.{Mode}
-use Rattle.mr3.specs.declared.state.Mode.the-variants.{Idle, Holds, InTurn}
-use Rattle.mr3.specs.declared.state.Turn.{Turn}
-use Rattle.mr3.specs.declared.Summary.{Summary}
-use Rattle.mr3.specs.Calls.{planVerdict}
-use Rattle.mr3.specs.Counts.{counted, none, summary}
-use Rattle.mr3.specs.Load.{Load, blockAt, loadOf}
-use Rattle.mr3.specs.Plan.{Core, Started, State, after, begins, begun, first, further, heldUntil, oldest, onward, origin, plan, readied, rejoined}
-use Rattle.mr3.specs.Plan.{rowOf, rowsFrom, run, settled, spent, started, state, step, taken, tested, turnOf, upTo, waits, where-waits, withLine, withRound, woken}
-use Rattle.mr3.specs.Waiting.{listed}
-use Rattle.mr3.specs.Within.{Accepted}
-use Rattle.mr3.proofs.Accepting.{accepted}
-use Rattle.mr3.proofs.Blocks.{getD-zeros, oldest-own}
-use Rattle.mr3.proofs.Unstarted.{Marks, Queue, Whole, apart-join, arrivals-first, cases, either, flowAt, front, listed-join, oldest-from, oldest-least, open-waits, set-cases, started-all, started-more, started-none, upTo-whole, waits-open}
-use Rattle.mr3.proofs.Waiting.{by-test}
+use Rattle.rules.specs.declared.answer.Summary.{Summary}
+use Rattle.rules.specs.declared.entry.Entry.{Entry}
+use Rattle.rules.specs.declared.mode.HeldFlow.{HeldFlow}
+use Rattle.rules.specs.declared.mode.Mode.{Mode}
+use Rattle.rules.specs.declared.mode.Mode.the-variants.{Idle, Holds, InTurn}
+use Rattle.rules.specs.declared.mode.Turn.{Turn}
+use Rattle.rules.specs.declared.row.Row.{Row}
+use Rattle.rules.specs.Calls.{planVerdict}
+use Rattle.rules.specs.Counts.{counted, none, summary}
+use Rattle.rules.specs.Load.{Load, blockAt, loadOf}
+use Rattle.rules.specs.Plan.{Core, Started, State, after, begins, begun, first, further, heldUntil, oldest, onward, origin, plan, readied, rejoined}
+use Rattle.rules.specs.Plan.{rowOf, rowsFrom, run, settled, spent, started, state, step, taken, tested, turnOf, upTo, waits, where-waits, withLine, withRound, woken}
+use Rattle.rules.specs.Waiting.{listed}
+use Rattle.rules.specs.Within.{Accepted}
+use Rattle.rules.proofs.Accepting.{accepted}
+use Rattle.rules.proofs.Blocks.{getD-zeros, oldest-own}
+use Rattle.rules.proofs.Unstarted.{Marks, Queue, Whole, apart-join, arrivals-first, cases, either, flowAt, front, listed-join, oldest-from, oldest-least, open-waits, set-cases, started-all, started-more, started-none, upTo-whole, waits-open}
+use Rattle.rules.proofs.Waiting.{by-test}
 
 module _ (L : Load) where
   -- a start is made, and one block more is started

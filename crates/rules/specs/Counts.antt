@@ -6,11 +6,11 @@ use mathlib.Core.List.{List, [], _∷_, _++_}
 use lib.Dec.{ltb}
 use lib.ListN.{length, getD, set, take, drop}
 use Rattle.load.specs.Dominant.{dominantTime}
-use Rattle.mr3.specs.declared.row.Row.{Row}
-use Rattle.mr3.specs.declared.Summary.{Summary}
-use Rattle.mr3.specs.Load.{Load, blockAt}
-use Rattle.mr3.specs.Rows.{rowsWords}
-use Rattle.mr3.specs.Stages.{lastRun}
+use Rattle.rules.specs.declared.answer.Summary.{Summary}
+use Rattle.rules.specs.declared.row.Row.{Row}
+use Rattle.rules.specs.Load.{Load, blockAt}
+use Rattle.rules.specs.Rows.{rowsWords}
+use Rattle.rules.specs.Stages.{lastRun}
 
 unfoldable pub one : Bool → ℕ
 one true = 1

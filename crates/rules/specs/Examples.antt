@@ -4,12 +4,12 @@ use mathlib.Core.Bool.{Bool, true, false, _&&_}
 use mathlib.Core.List.{List, [], _∷_, _++_}
 use lib.Dec.{eqb}
 use lib.ListN.{length, replicate}
-use Rattle.mr3.specs.declared.row.Row.{Row}
-use Rattle.mr3.specs.declared.Summary.{Summary}
-use Rattle.mr3.specs.Counts.{none, records, summary}
-use Rattle.mr3.specs.Load.{Load}
-use Rattle.mr3.specs.Plan.{plan}
-use Rattle.mr3.specs.Rows.{rowsWords}
+use Rattle.rules.specs.declared.answer.Summary.{Summary}
+use Rattle.rules.specs.declared.row.Row.{Row}
+use Rattle.rules.specs.Counts.{none, records, summary}
+use Rattle.rules.specs.Load.{Load}
+use Rattle.rules.specs.Plan.{plan}
+use Rattle.rules.specs.Rows.{rowsWords}
 
 pub record Example : Type 0 where
   pub stages : ℕ

@@ -1,4 +1,4 @@
--- Laws of acceptance: the tests block by block, as the loop makes them, and what an accepted plan call says of its load.
+-- Laws of acceptance: the tests block by block, as a loop makes them, and what an accepted plan call says of its load.
 use Prim.Native.Nat.{ℕ, zero, suc, _+_, _-_, _*_, _≤_, _<_, min}
 use mathlib.Core.Bool.{false}
 use mathlib.Core.List.{List}
@@ -17,9 +17,9 @@ use Rattle.load.specs.Blocks.{blockOf}
 use Rattle.load.specs.Tests.{blockVerdict, countsVerdict}
 use Rattle.load.proofs.Accepted.{counts-within, BlockWithinLimits, block-within-limits}
 use Rattle.load.proofs.Cases.{given-accepted, or-false}
-use Rattle.mr3.specs.Calls.{andThen, blocksVerdict, planVerdict, short}
-use Rattle.mr3.specs.Load.{blockAt, loadOf}
-use Rattle.mr3.specs.Within.{Accepted}
+use Rattle.rules.specs.Calls.{andThen, blocksVerdict, planVerdict, short}
+use Rattle.rules.specs.Load.{blockAt, loadOf}
+use Rattle.rules.specs.Within.{Accepted}
 
 module _ (c : Counts) (above : ℕ) (t : List ℕ) where
   -- no block left, or one

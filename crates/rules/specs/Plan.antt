@@ -7,19 +7,19 @@ use lib.Dec.{eqb, leb, ltb}
 use lib.ListN.{length, getD, set, replicate}
 use Rattle.load.specs.declared.block.Block.{Block}
 use Rattle.load.specs.Dominant.{dominantStage, dominantTime}
-use Rattle.mr3.specs.declared.account.Round.{Round}
-use Rattle.mr3.specs.declared.list.Entry.{Entry}
-use Rattle.mr3.specs.declared.row.Row.{Row}
-use Rattle.mr3.specs.declared.stages.Span.{Span}
-use Rattle.mr3.specs.declared.stages.Way.{Way}
-use Rattle.mr3.specs.declared.state.HeldFlow.{HeldFlow}
-use Rattle.mr3.specs.declared.state.Turn.{Turn}
-use Rattle.mr3.specs.declared.state.Mode.{Mode}
-use Rattle.mr3.specs.declared.state.Mode.the-variants.{Idle, Holds, InTurn}
-use Rattle.mr3.specs.Account.{called, noted}
-use Rattle.mr3.specs.Load.{Load, blockAt, seek}
-use Rattle.mr3.specs.Stages.{lastRun, wayOf}
-use Rattle.mr3.specs.Waiting.{listed}
+use Rattle.rules.specs.declared.entry.Entry.{Entry}
+use Rattle.rules.specs.declared.mode.HeldFlow.{HeldFlow}
+use Rattle.rules.specs.declared.mode.Mode.{Mode}
+use Rattle.rules.specs.declared.mode.Mode.the-variants.{Idle, Holds, InTurn}
+use Rattle.rules.specs.declared.mode.Turn.{Turn}
+use Rattle.rules.specs.declared.round.Round.{Round}
+use Rattle.rules.specs.declared.row.Row.{Row}
+use Rattle.rules.specs.declared.stages.Span.{Span}
+use Rattle.rules.specs.declared.stages.Way.{Way}
+use Rattle.rules.specs.Account.{called, noted}
+use Rattle.rules.specs.Load.{Load, blockAt, seek}
+use Rattle.rules.specs.Stages.{lastRun, wayOf}
+use Rattle.rules.specs.Waiting.{listed}
 
 -- Blocks that have arrived are those below place `next` of the table; the list holds the waiting flows.
 pub record Line : Type 0 where

@@ -2,7 +2,7 @@
 use Prim.Native.Nat.{ℕ, _+_, _-_, max}
 use mathlib.Core.Bool.{cond}
 use lib.Dec.{eqb}
-use Rattle.mr3.specs.declared.account.Round.{Round}
+use Rattle.rules.specs.declared.round.Round.{Round}
 
 -- If the current round is used up, a round opens: its length is the list's length then, and the credit is the largest excess
 -- left by a turn of the round before (0 for the first).

@@ -11,14 +11,14 @@ use lib.Dec.{eqb, leb, ltb}
 use lib.ListN.{getD, length, replicate, set}
 use lib.Seq.{getD-set-other, getD-set-same}
 use Rattle.load.proofs.Cases as chain
-use Rattle.mr3.specs.declared.list.Entry.{Entry}
-use Rattle.mr3.specs.declared.state.Mode.{Mode}
-use Rattle.mr3.specs.declared.state.Mode.the-variants.{Idle, Holds, InTurn}
-use Rattle.mr3.specs.Load.{Load, blockAt, seek}
-use Rattle.mr3.specs.Plan.{Core, Line, arrivals, arrived, busy, oldest, upTo, waits}
-use Rattle.mr3.specs.Waiting.{listed}
-use Rattle.mr3.proofs.Blocks.{getD-zeros, oldest-own}
-use Rattle.mr3.proofs.Waiting.{by-test}
+use Rattle.rules.specs.declared.entry.Entry.{Entry}
+use Rattle.rules.specs.declared.mode.Mode.{Mode}
+use Rattle.rules.specs.declared.mode.Mode.the-variants.{Idle, Holds, InTurn}
+use Rattle.rules.specs.Load.{Load, blockAt, seek}
+use Rattle.rules.specs.Plan.{Core, Line, arrivals, arrived, busy, oldest, upTo, waits}
+use Rattle.rules.specs.Waiting.{listed}
+use Rattle.rules.proofs.Blocks.{getD-zeros, oldest-own}
+use Rattle.rules.proofs.Waiting.{by-test}
 
 -- a test is true or false; of two tests one is true
 pub cases : {P : Type 0} (b : Bool) → (b ≡ true → P) → (b ≡ false → P) → P

@@ -1,0 +1,15 @@
+pub mod Accepting
+pub mod Arriving
+pub mod Balances
+pub mod Blocks
+pub mod Bounds
+pub mod Calling
+pub mod Deciding
+pub mod Examples
+pub mod Refusing
+pub mod Runs
+pub mod Seeking
+pub mod Starting
+pub mod Unstarted
+pub mod Waiting
+pub mod Whole

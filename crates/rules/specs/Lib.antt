@@ -1,0 +1,10 @@
+pub mod Account
+pub mod Calls
+pub mod Counts
+pub mod Examples
+pub mod Load
+pub mod Plan
+pub mod Rows
+pub mod Stages
+pub mod Waiting
+pub mod Within
