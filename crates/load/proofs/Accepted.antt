@@ -7,10 +7,28 @@ use borrow.Author.Tests.{ltb-false, ltb-true, not-false}
 use lib.Dec.{ltb}
 use Rattle.load.specs.declared.block.Block.{Block}
 use Rattle.load.specs.declared.counts.Counts.{Counts}
+use Rattle.load.specs.declared.refusal.Refusal.{Refusal}
+use Rattle.load.specs.declared.refusal.Refusal.the-variants.{Version, FileLength, Stages, TooMany, Record, NameByte, ShortTable, NoSuchFlow, OverLimit, AllZero, OutOfOrder}
 use Rattle.load.specs.declared.refusal.Verdict.the-variants as verdict
-use Rattle.load.specs.Dominant.{dominantTime}
+use Rattle.load.specs.Dominant.{dominantStage, dominantTime}
+use Rattle.load.specs.Refusals.{numberOf}
 use Rattle.load.specs.Tests.{allZero, blockVerdict, countsVerdict, overLimit, timeOver}
 use Rattle.load.proofs.Cases.{by-tests, given-accepted, or-false}
+use Rattle.load.proofs.DominantStage.{dominant-time, four-cases, stage-there, timeAt}
+
+-- no refusal has the number of an accepted call
+pub number-above : (r : Refusal) → 0 < numberOf r
+number-above Version = omega arith
+number-above FileLength = omega arith
+number-above Stages = omega arith
+number-above TooMany = omega arith
+number-above Record = omega arith
+number-above NameByte = omega arith
+number-above ShortTable = omega arith
+number-above NoSuchFlow = omega arith
+number-above OverLimit = omega arith
+number-above AllZero = omega arith
+number-above OutOfOrder = omega arith
 
 pub record CountsWithin (c : Counts) : Type 0 where
   pub some-stage : 1 ≤ c .stages
@@ -41,6 +59,7 @@ pub record BlockWithinLimits (c : Counts) (above : ℕ) (b : Block) : Type 0 whe
   pub time3 : b .time3 ≤ 10_000_000
   pub time4 : b .time4 ≤ 10_000_000
   pub some-time : 0 < dominantTime b
+  pub stage : dominantStage b ≤ c .stages
   pub order : above ≤ b .arrival
 
 -- a time is within the limit also at a stage that the load lacks, where it is 0
@@ -73,6 +92,8 @@ block-within-limits c above b e =
     let to3 = or-false _ _ (to4 .0) in
     let to2 = or-false _ _ (to3 .0) in
     let to1 = or-false _ _ (to2 .0) in
+    let some = some-time b (times .0) in
+    let dominant = dominant-time b in
     record {
       flow = ltb-true (b .flow) (c .flows) (not-false _ (flow .0));
       arrival = ltb-false 1_000_000_000 (b .arrival) (to1 .0);
@@ -80,6 +101,13 @@ block-within-limits c above b e =
       time2 = time-within _ _ _ (to2 .1);
       time3 = time-within _ _ _ (to3 .1);
       time4 = time-within _ _ _ (to4 .1);
-      some-time = some-time b (times .0);
+      some-time = some;
+      stage =
+          four-cases (λ k. timeAt k b ≡ dominantTime b → k ≤ c .stages)
+          (λ e. stage-there (c .stages) 1 (b .time1) (to1 .1) (omega arith))
+          (λ e. stage-there (c .stages) 2 (b .time2) (to2 .1) (omega arith))
+          (λ e. stage-there (c .stages) 3 (b .time3) (to3 .1) (omega arith))
+          (λ e. stage-there (c .stages) 4 (b .time4) (to4 .1) (omega arith))
+          (dominantStage b) (dominant .0) (dominant .1) (dominant .2);
       order = ltb-false (b .arrival) above (order .0);
     }

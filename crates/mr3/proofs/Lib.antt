@@ -1,8 +1,14 @@
+pub mod Arriving
+pub mod Calling
+pub mod Deciding
 pub mod Entries
 pub mod Modes
 pub mod Moving
 pub mod Reaching
 pub mod Running
+pub mod Runs
+pub mod Seeking
+pub mod Starting
 pub mod Taking
 pub mod Tallying
 pub mod Unique

@@ -5,7 +5,8 @@ use mathlib.Core.List.{List}
 use mathlib.Core.Path.{_≡_, refl}
 use native.Mathlib.Numerals.{sub-one}
 use native.Mathlib.Omega.{arith}
-use borrow.Author.Tests.{ltb-false}
+use borrow.Author.Tests.{eqb-false, eqb-true, ltb-false}
+use lib.Dec.{eqb}
 use lib.ListN.{drop, length}
 use lib.Seq.{drop-drop}
 use Rattle.load.specs.declared.block.Block.{Block}
@@ -14,9 +15,10 @@ use Rattle.load.specs.declared.refusal.Refusal.{Refusal}
 use Rattle.load.specs.declared.refusal.Verdict.the-variants as verdict
 use Rattle.load.specs.declared.refusal.Verdict.{Verdict}
 use Rattle.load.specs.Blocks.{blockOf}
+use Rattle.load.specs.Dominant.{dominantStage}
 use Rattle.load.specs.Tests.{blockVerdict, countsVerdict}
 use Rattle.load.proofs.Accepted.{counts-within, BlockWithinLimits, block-within-limits}
-use Rattle.load.proofs.Cases.{given-accepted, or-false}
+use Rattle.load.proofs.Cases.{cases, given-accepted, or-false}
 use Rattle.rules.specs.Calls.{andThen, blocksVerdict, planVerdict, short}
 use Rattle.rules.specs.Load.{blockAt, loadOf}
 use Rattle.rules.specs.Within.{Accepted}
@@ -107,6 +109,13 @@ module _ (c : Counts) (n : ℕ) (table : List ℕ) (flowWords rowWords : ℕ) (e
         room .rows,
       )
 
-  -- arrivals never fall
-  pub sorted : (i : ℕ) → suc i < c .blocks → blockAt table i .arrival ≤ blockAt table (suc i) .arrival
-  sorted i h = each-accepted c table (tests .2) (suc i) h .order
+  -- a block's dominant stage is one of the load's, and arrivals never fall
+  pub stage-there : (i : ℕ) → i < c .blocks → dominantStage (blockAt table i) ≤ c .stages
+  stage-there i h = each-accepted c table (tests .2) i h .stage
+
+  pub sorted : (i j : ℕ) → i ≤ j → j < c .blocks → blockAt table i .arrival ≤ blockAt table j .arrival
+  sorted i zero h below = let same : i ≡ 0 = omega arith in rw same (omega arith)
+  sorted i (suc j) h below =
+      cases (eqb i (suc j))
+      (λ e. rw (eqb-true i (suc j) e) (omega arith))
+      (λ e. omega (arith, sorted i j (omega (arith, eqb-false i (suc j) e)) (omega arith), each-accepted c table (tests .2) (suc j) below .order))

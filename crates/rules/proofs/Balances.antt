@@ -11,6 +11,7 @@ use native.Mathlib.Omega.{arith}
 use borrow.Author.Tests.{eqb-false, eqb-true}
 use lib.Dec.{eqb, leb, ltb}
 use lib.ListN.{length}
+use Rattle.load.proofs.Cases.{by-test}
 use Rattle.rules.specs.declared.entry.Entry.{Entry}
 use Rattle.rules.specs.declared.mode.Mode.the-variants.{Idle, Holds, InTurn}
 use Rattle.rules.specs.declared.mode.Mode.{Mode}
@@ -20,7 +21,6 @@ use Rattle.rules.specs.Load.{blockAt, Load}
 use Rattle.rules.specs.Plan.{after, arrivals, arrived, begins, begun, busy, Core, first, further, heldUntil, Line, onward, origin, readied, rejoined, settled, started, Started, State, state, step, taken, tested, turnOf, upTo, waits, where-waits, withLine, withRound, woken}
 use Rattle.rules.specs.Waiting.{listed}
 use Rattle.rules.proofs.Bounds.{where-some}
-use Rattle.rules.proofs.Waiting.{by-test}
 
 -- the first k entries are within the credit, the others within the round's largest excess
 unfoldable pub Split : ℕ → ℕ → ℕ → List Entry → Type 0

@@ -9,13 +9,13 @@ use lib.Dec.{eqb, ltb}
 use lib.ListN.{getD, replicate, set}
 use Rattle.load.specs.declared.block.Block.{Block}
 use Rattle.load.specs.Dominant.{dominantTime}
+use Rattle.load.proofs.Cases.{by-test}
 use Rattle.rules.specs.declared.stages.Span.{Span}
 use Rattle.rules.specs.declared.stages.Way.{Way}
 use Rattle.rules.specs.Load.{Load, blockAt, seek}
 use Rattle.rules.specs.Plan.{Core, oldest, waits}
 use Rattle.rules.specs.Stages.{lastRun, laterRun, runAt, wayOf}
 use Rattle.rules.specs.Within.{BlockWithin, WayWithin}
-use Rattle.rules.proofs.Waiting.{by-test}
 
 -- what is sought lies from i on, and is of the flow if it lies among the k blocks
 seek-finds : (table : List ℕ) (f k i : ℕ) → (i ≤ seek table f k i) × (seek table f k i < i + k → blockAt table (seek table f k i) .flow ≡ f)

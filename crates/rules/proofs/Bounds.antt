@@ -9,6 +9,7 @@ use borrow.Author.Tests.{ltb-true}
 use lib.Dec.{leb, ltb}
 use lib.ListN.{getD, length, length-append}
 use Rattle.load.specs.declared.block.Block.{Block}
+use Rattle.load.proofs.Cases.{by-test}
 use Rattle.rules.specs.declared.entry.Entry.{Entry}
 use Rattle.rules.specs.declared.mode.Mode.the-variants.{Idle, Holds, InTurn}
 use Rattle.rules.specs.declared.mode.Mode.{Mode}
@@ -20,7 +21,7 @@ use Rattle.rules.specs.Plan.{Core, Started, State, after, begun, first, 
 use Rattle.rules.specs.Stages.{lastRun, wayOf}
 use Rattle.rules.specs.Within.{Accepted, BlockWithin, CoreWithin, EntriesWithin, latest, ModeWithin, mostSpent, RowWithin, StateWithin, WayWithin}
 use Rattle.rules.proofs.Blocks.{dominant-within, gate-set, getD-zeros, oldest-own, way-within}
-use Rattle.rules.proofs.Waiting.{Grown, arrivals-within, by-test, called-within, entries-joined, entries-later}
+use Rattle.rules.proofs.Waiting.{Grown, arrivals-within, called-within, entries-joined, entries-later}
 
 -- what holds of a start that is made where a test says so
 pub where-some : (P : Started → Type 0) (b : Bool) (s q : Started) → cond b (some s) none ≡ some q → (b ≡ true → P s) → P q

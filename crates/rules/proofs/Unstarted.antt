@@ -11,6 +11,7 @@ use lib.Dec.{eqb, leb, ltb}
 use lib.ListN.{getD, length, replicate, set}
 use lib.Seq.{getD-set-other, getD-set-same}
 use Rattle.load.proofs.Cases as chain
+use Rattle.load.proofs.Cases.{by-test, cases, either}
 use Rattle.rules.specs.declared.entry.Entry.{Entry}
 use Rattle.rules.specs.declared.mode.Mode.{Mode}
 use Rattle.rules.specs.declared.mode.Mode.the-variants.{Idle, Holds, InTurn}
@@ -18,16 +19,6 @@ use Rattle.rules.specs.Load.{Load, blockAt, seek}
 use Rattle.rules.specs.Plan.{Core, Line, arrivals, arrived, busy, oldest, upTo, waits}
 use Rattle.rules.specs.Waiting.{listed}
 use Rattle.rules.proofs.Blocks.{getD-zeros, oldest-own}
-use Rattle.rules.proofs.Waiting.{by-test}
-
--- a test is true or false; of two tests one is true
-pub cases : {P : Type 0} (b : Bool) → (b ≡ true → P) → (b ≡ false → P) → P
-cases true p q = p refl
-cases false p q = q refl
-
-pub either : {P : Type 0} (a b : Bool) → a || b ≡ true → (a ≡ true → P) → (b ≡ true → P) → P
-either true b e p q = p refl
-either false b e p q = q e
 
 pub listed-join : (g : ℕ) (e : Entry) (w : List Entry) → listed g (w ++ (e ∷ [])) ≡ listed g w || eqb (e .flow) g
 unfolding listed

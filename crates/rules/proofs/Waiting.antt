@@ -6,6 +6,7 @@ use mathlib.Core.Path.{_≡_, refl}
 use native.Mathlib.Omega.{arith}
 use lib.Dec.{eqb, leb}
 use lib.ListN.{length, length-append}
+use Rattle.load.proofs.Cases.{by-test}
 use Rattle.rules.specs.declared.entry.Entry.{Entry}
 use Rattle.rules.specs.declared.mode.Mode.{Mode}
 use Rattle.rules.specs.declared.round.Round.{Round}
@@ -14,11 +15,6 @@ use Rattle.rules.specs.Load.{Load, blockAt}
 use Rattle.rules.specs.Plan.{Line, arrivals, arrived, busy}
 use Rattle.rules.specs.Waiting.{listed}
 use Rattle.rules.specs.Within.{Accepted, EntriesWithin, mostSpent}
-
--- what holds in both cases of a test
-pub by-test : {A : Type 0} (P : A → Type 0) (b : Bool) {x y : A} → (b ≡ true → P x) → (b ≡ false → P y) → P (cond b x y)
-by-test P true f g = f refl
-by-test P false f g = g refl
 
 pub entries-later : (k : ℕ) (w : List Entry) → EntriesWithin k w → EntriesWithin (k + 1) w
 unfolding EntriesWithin mostSpent

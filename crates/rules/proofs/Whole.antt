@@ -11,6 +11,7 @@ use lib.Dec.{eqb, leb, ltb}
 use lib.ListN.{getD, length, length-set, set}
 use Rattle.load.specs.declared.counts.Counts.{Counts}
 use Rattle.load.specs.declared.refusal.Verdict.the-variants as verdict
+use Rattle.load.proofs.Cases.{by-test, cases, either}
 use Rattle.rules.specs.declared.answer.Summary.{Summary}
 use Rattle.rules.specs.declared.entry.Entry.{Entry}
 use Rattle.rules.specs.declared.mode.HeldFlow.{HeldFlow}
@@ -27,8 +28,7 @@ use Rattle.rules.specs.Waiting.{listed}
 use Rattle.rules.specs.Within.{Accepted}
 use Rattle.rules.proofs.Accepting.{accepted}
 use Rattle.rules.proofs.Blocks.{getD-zeros, oldest-own}
-use Rattle.rules.proofs.Unstarted.{Marks, Queue, Whole, apart-join, arrivals-first, cases, either, flowAt, front, listed-join, oldest-from, oldest-least, open-waits, set-cases, started-all, started-more, started-none, upTo-whole, waits-open}
-use Rattle.rules.proofs.Waiting.{by-test}
+use Rattle.rules.proofs.Unstarted.{Marks, Queue, Whole, apart-join, arrivals-first, flowAt, front, listed-join, oldest-from, oldest-least, open-waits, set-cases, started-all, started-more, started-none, upTo-whole, waits-open}
 
 module _ (L : Load) where
   -- a start is made, and one block more is started
@@ -39,6 +39,39 @@ module _ (L : Load) where
 
   abbrev StartsAt : ℕ → State → Type 0
   StartsAt k s = Next k (started L (s .mode) (s .core))
+
+  -- a turn ends: no block of the flow is left to wait, or the flow joins the tail
+  module _ (k : ℕ) (t : Turn) (c : Core) (w : Whole L k (InTurn t) c) where
+    pub turn-leaves : waits L c (t .flow) ≡ false → Whole L k Idle c
+    unfolding listed
+    turn-leaves ends = (
+      w .0,
+      record {
+        placed =
+            λ i h left.
+            either (eqb (t .flow) (flowAt L i)) (listed (flowAt L i) (c .line .wait)) (w .1 .placed i h left)
+            (λ e.
+            let own = eqb-true (t .flow) (flowAt L i) e in
+            absurd (true≢false (sym (open-waits L c (t .flow) (record { place = i; arrived = h; own = sym own; left = rw own left })) ∙ ends)))
+            (λ e. e);
+        apart = w .1 .apart .1;
+        owes = w .1 .owes;
+      },
+    )
+
+    pub turn-rejoins : (x : ℕ) → waits L c (t .flow) ≡ true → Whole L k Idle (rejoined c (t .flow) x)
+    unfolding listed rejoined withLine withRound
+    turn-rejoins x waiting = (
+      w .0,
+      record {
+        placed = λ i h left. rw listed-join (rw or-comm at (w .1 .placed i h left));
+        apart = apart-join _ (c .line .wait) (w .1 .apart .0) (w .1 .apart .1);
+        owes =
+            λ f e.
+            either (listed f (c .line .wait)) (eqb (t .flow) f) (rw listed-join at e) (w .1 .owes f)
+            (λ q. rw (← (eqb-true (t .flow) f q)) (waits-open L c (t .flow) waiting));
+      },
+    )
 
   module _ (ok : Accepted L) (k : ℕ) where
     -- the oldest block of the flow in its turn starts
@@ -147,36 +180,6 @@ module _ (L : Load) where
             next-taken c₁ (c₁ .line .wait) (flowAt L at) (v .0) (v .1) (v .1 .placed at joins (w .0 .passed (flowAt L at))))
             (λ q. absurd (omega (arith, none-left c e (ltb-false at (L .counts .blocks) q) w, more)))
 
-      -- a turn goes on, or ends: no block of the flow is left to wait, or the flow joins the tail
-      module _ (t : Turn) (c : Core) (w : Whole L k (InTurn t) c) where
-        turn-leaves : waits L c (t .flow) ≡ false → Queue L (c .line .wait) (c .line .wait) (c .from) (c .line .next)
-        unfolding listed
-        turn-leaves ends = record {
-          placed =
-              λ i h left.
-              either (eqb (t .flow) (flowAt L i)) (listed (flowAt L i) (c .line .wait)) (w .1 .placed i h left)
-              (λ e.
-              let own = eqb-true (t .flow) (flowAt L i) e in
-              absurd (true≢false (sym (open-waits L c (t .flow) (record { place = i; arrived = h; own = sym own; left = rw own left })) ∙ ends)))
-              (λ e. e);
-          apart = w .1 .apart .1;
-          owes = w .1 .owes;
-        }
-
-        turn-rejoins : (x : ℕ) → waits L c (t .flow) ≡ true → Whole L k Idle (rejoined c (t .flow) x)
-        unfolding listed rejoined withLine withRound
-        turn-rejoins x waiting = (
-          w .0,
-          record {
-            placed = λ i h left. rw listed-join (rw or-comm at (w .1 .placed i h left));
-            apart = apart-join _ (c .line .wait) (w .1 .apart .0) (w .1 .apart .1);
-            owes =
-                λ f e.
-                either (listed f (c .line .wait)) (eqb (t .flow) f) (rw listed-join at e) (w .1 .owes f)
-                (λ q. rw (← (eqb-true (t .flow) f q)) (waits-open L c (t .flow) waiting));
-          },
-        )
-
       next-tested : (m : Mode) (c : Core) → Whole L k m c → let s = tested L m c in StartsAt k (onward L (s .mode) (s .core))
       unfolding onward state tested
       next-tested Idle c w = next-readied c w
@@ -186,8 +189,17 @@ module _ (L : Load) where
           (λ waiting.
           by-test (λ (s : State). StartsAt k (onward L (s .mode) (s .core))) (leb (t .spent) (t .allowance))
           (λ _. next-in-turn t c w waiting)
-          (λ _. next-readied (rejoined c (t .flow) (t .spent - t .allowance)) (turn-rejoins t c w (t .spent - t .allowance) waiting)))
-          (λ ends. next-readied c (w .0, turn-leaves t c w ends))
+          (λ _. next-readied (rejoined c (t .flow) (t .spent - t .allowance)) (turn-rejoins k t c w (t .spent - t .allowance) waiting)))
+          (λ ends. next-readied c (turn-leaves k t c w ends))
+
+  -- after a start one block more is started
+  pub step-whole : Accepted L → (k : ℕ) (s : State) (q : Started) → k < L .counts .blocks → Whole L k (s .mode) (s .core) → step L s ≡ some q
+      → Whole L (k + 1) (q .then .mode) (q .then .core)
+  unfolding settled step
+  step-whole ok k s q more w e =
+      let made = next-tested ok k more (s .mode) (s .core) w in
+      let same : made .start ≡ q = cc in
+      rw (← same) (made .whole)
 
   -- from a state with k blocks started
   run-whole : Accepted L → (n k : ℕ) (s : State) → Whole L k (s .mode) (s .core) → k + n ≤ L .counts .blocks → length (run L n s) ≡ n
@@ -197,7 +209,7 @@ module _ (L : Load) where
       let q = next-tested ok k (omega arith) (s .mode) (s .core) w in
       rw (q .is) (ap suc (run-whole ok n (k + 1) (q .start .then) (q .whole) (omega arith)))
 
-  origin-whole : Whole L 0 (origin L .mode) (origin L .core)
+  pub origin-whole : Whole L 0 (origin L .mode) (origin L .core)
   unfolding listed origin state
   origin-whole = upTo-whole L 0 Idle 0 _ (
     record { long = refl; next-within = omega arith; passed = λ f. omega (arith, getD-zeros 64 f); count = started-none L (L .counts .blocks) },

@@ -2,6 +2,7 @@ pub mod Account
 pub mod Calls
 pub mod Counts
 pub mod Examples
+pub mod Fairness
 pub mod Load
 pub mod Plan
 pub mod Rows

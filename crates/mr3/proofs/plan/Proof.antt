@@ -3,7 +3,7 @@ use mathlib.Core.Path.{sym, _∙_}
 use native.Mathlib.Omega.{arith}
 use borrow.Author.Needs.{needs}
 use Rattle.rules.proofs.Accepting.{accepted}
-use Rattle.rules.proofs.Calling.{plans-listed, plans-refused}
+use Rattle.mr3.proofs.Calling.{plans-listed, plans-refused}
 use Rattle.mr3.proofs.Tallying.{cleared-room, cleared-within}
 use Rattle.mr3.proofs.plan.Statement.{statement}
 use Rattle.mr3.proofs.plan.Tie as tie

@@ -5,7 +5,7 @@ use native.Mathlib.Omega.{arith}
 use Rattle.load.specs.declared.counts.Counts.{Counts}
 use Rattle.rules.specs.Load.{loadOf}
 use Rattle.rules.specs.Plan.{arrivals}
-use Rattle.rules.proofs.Arriving.{arrivals-late, arrivals-none, arrivals-step}
+use Rattle.mr3.proofs.Arriving.{arrivals-late, arrivals-none, arrivals-step}
 use Rattle.mr3.specs.Storage.{entriesOf}
 use Rattle.mr3.proofs.arrivals.admit.Statement.{statement}
 use Rattle.mr3.proofs.arrivals.admit.Tie as tie

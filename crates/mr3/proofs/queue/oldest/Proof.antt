@@ -5,7 +5,7 @@ use native.Mathlib.Omega.{arith}
 use borrow.Author.Needs.{needs}
 use Rattle.load.proofs.Cases.{by-tests}
 use Rattle.rules.specs.Load.{seek}
-use Rattle.rules.proofs.Seeking.{seek-step, seek-end}
+use Rattle.mr3.proofs.Seeking.{seek-step, seek-end}
 use Rattle.mr3.proofs.queue.oldest.Statement.{statement}
 use Rattle.mr3.proofs.queue.oldest.Tie as tie
 

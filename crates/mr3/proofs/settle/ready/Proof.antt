@@ -4,7 +4,7 @@ use native.Mathlib.Omega.{arith}
 use borrow.Author.Needs.{needs}
 use Rattle.rules.specs.Load.{loadOf}
 use Rattle.rules.specs.Plan.{readied}
-use Rattle.rules.proofs.Deciding.{readied-takes}
+use Rattle.mr3.proofs.Deciding.{readied-takes}
 use Rattle.mr3.proofs.Taking.{head-empty, head-flow, none-waits}
 use Rattle.mr3.proofs.settle.ready.Statement.{statement}
 use Rattle.mr3.proofs.settle.ready.Tie as tie

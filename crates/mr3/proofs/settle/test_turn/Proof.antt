@@ -4,7 +4,7 @@ use native.Mathlib.Omega.{arith}
 use borrow.Author.Needs.{needs}
 use Rattle.rules.specs.declared.mode.Mode.the-variants.{Idle}
 use Rattle.rules.specs.Plan.{oldest, state}
-use Rattle.rules.proofs.Deciding.{tested-goes-on, tested-leaves, tested-rejoins}
+use Rattle.mr3.proofs.Deciding.{tested-goes-on, tested-leaves, tested-rejoins}
 use Rattle.mr3.proofs.settle.test_turn.Statement.{statement}
 use Rattle.mr3.proofs.settle.test_turn.Tie as tie
 

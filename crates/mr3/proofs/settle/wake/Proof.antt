@@ -4,7 +4,7 @@ use native.Mathlib.Omega.{arith}
 use borrow.Author.Needs.{needs}
 use Rattle.rules.specs.declared.mode.Mode.the-variants.{Idle}
 use Rattle.rules.specs.Plan.{state}
-use Rattle.rules.proofs.Deciding.{readied-ends, readied-wakes, taken-none}
+use Rattle.mr3.proofs.Deciding.{readied-ends, readied-wakes, taken-none}
 use Rattle.mr3.proofs.Entries.{entries-none}
 use Rattle.mr3.proofs.Taking.{head-empty, head-flow, none-waits}
 use Rattle.mr3.proofs.settle.wake.Statement.{statement}

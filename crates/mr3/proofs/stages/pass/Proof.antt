@@ -3,7 +3,7 @@ use Prim.Native.Nat.{_≤_}
 use native.Mathlib.Omega.{arith}
 use borrow.Author.Needs.{needs}
 use Rattle.rules.specs.Stages.{wayOf}
-use Rattle.rules.proofs.Runs.{later-within}
+use Rattle.mr3.proofs.Runs.{later-within}
 use Rattle.mr3.proofs.stages.pass.Statement.{statement}
 use Rattle.mr3.proofs.stages.pass.Tie as tie
 

@@ -7,8 +7,8 @@ use borrow.Author.Needs.{needs}
 use Rattle.rules.specs.declared.row.Row.{Row}
 use Rattle.rules.specs.declared.stages.Span.{Span}
 use Rattle.rules.specs.Plan.{after, begins, oldest, rowOf}
-use Rattle.rules.proofs.Deciding.{starts, starts-not}
-use Rattle.rules.proofs.Starting.{first-is}
+use Rattle.mr3.proofs.Deciding.{starts, starts-not}
+use Rattle.mr3.proofs.Starting.{first-is}
 use Rattle.mr3.specs.Storage.{nextOf}
 use Rattle.mr3.proofs.step.first.Statement.{statement}
 use Rattle.mr3.proofs.step.first.Tie as tie

@@ -6,8 +6,8 @@ use native.Mathlib.Omega.{arith}
 use borrow.Author.Needs.{needs}
 use Rattle.rules.specs.declared.row.Row.{Row}
 use Rattle.rules.specs.Plan.{oldest, rowOf, started}
-use Rattle.rules.proofs.Deciding.{starts, starts-not}
-use Rattle.rules.proofs.Starting.{further-is}
+use Rattle.mr3.proofs.Deciding.{starts, starts-not}
+use Rattle.mr3.proofs.Starting.{further-is}
 use Rattle.mr3.specs.Storage.{nextOf}
 use Rattle.mr3.proofs.step.further.Statement.{statement}
 use Rattle.mr3.proofs.step.further.Tie as tie

@@ -1,0 +1,78 @@
+-- Demand 3: the whole plan of every load that the plan call accepts is fair, and so are the rows that the call leaves in the row
+-- table where it answers 0 with a limit that covers all blocks. (`Fair` has the bound, `Turns` the two-turn limit.)
+use Prim.Native.Nat.{ℕ, zero, suc, _+_, _*_, _≤_, _<_, max, min}
+use mathlib.Core.List.{List, [], _∷_, _++_}
+use mathlib.Core.Path.{_≡_, refl, sym, ap, subst}
+use native.Mathlib.Omega.{arith}
+use borrow.Author.Tests.{eqb-false, eqb-true}
+use lib.Dec.{eqb}
+use lib.ListN.{drop, length}
+use Rattle.load.specs.declared.counts.Counts.{Counts}
+use Rattle.load.specs.declared.refusal.Verdict.{Verdict}
+use Rattle.load.specs.declared.refusal.Verdict.the-variants as verdict
+use Rattle.load.specs.Dominant.{dominantTime}
+use Rattle.load.proofs.Accepted.{number-above}
+use Rattle.load.proofs.Cases.{cases}
+use Rattle.rules.specs.declared.answer.Planned.{Planned}
+use Rattle.rules.specs.declared.row.Row.{Row}
+use Rattle.rules.specs.Calls.{answerNumber, answerOf, Plans, planVerdict, rowsAfter}
+use Rattle.rules.specs.Fairness.{Fair, largestOf, largestTime}
+use Rattle.rules.specs.Load.{blockAt, Load, loadOf}
+use Rattle.rules.specs.Plan.{origin, plan, run}
+use Rattle.rules.specs.Rows.{rowAt, rowsIn, rowsWords, rowWords, wayWords}
+use Rattle.rules.proofs.Accepting.{accepted, sorted, stage-there}
+use Rattle.rules.proofs.Fair.{origin-fair}
+use Rattle.rules.proofs.Starts.{Sound}
+use Rattle.rules.proofs.Turns.{origin-turns}
+use Rattle.rules.proofs.Whole.{plan-length}
+
+largest-bound : (table : List ℕ) (k i : ℕ) → i < k → dominantTime (blockAt table i) ≤ largestOf table k
+unfolding largestOf
+largest-bound table zero i h = absurd (omega arith)
+largest-bound table (suc k) i h =
+    cases (eqb i k)
+    (λ e. rw (eqb-true i k e) (omega arith))
+    (λ e. omega (arith, largest-bound table k i (omega (arith, eqb-false i k e))))
+
+module _ (c : Counts) (n : ℕ) (table : List ℕ) (flowWords rowWords : ℕ) (e : planVerdict c n table flowWords rowWords ≡ verdict.Accepted) where
+  abbrev L : Load
+  L = loadOf c table
+
+  sound : Sound L (largestTime L)
+  unfolding largestTime
+  sound = record {
+    accepted = accepted c n table flowWords rowWords e .0;
+    sorted = sorted c n table flowWords rowWords e;
+    stage = stage-there c n table flowWords rowWords e;
+    bound = largest-bound table (c .blocks);
+  }
+
+  -- of the whole plan, and of its first n rows as if they were all
+  pub plan-fair : Fair L (plan L n)
+  unfolding plan
+  plan-fair = record {
+    alike = λ i j t₁ t₂ wᵢ wⱼ. origin-fair L (largestTime L) sound t₁ t₂ i j (min n (c .blocks)) (omega arith) (λ t from to _. wᵢ t from to) (λ t from to _. wⱼ t from to);
+    turns = λ f t. origin-turns L (largestTime L) sound f t (min n (c .blocks)) (omega arith);
+  }
+
+-- rows written and read again
+rows-back : (rs : List Row) (k : ℕ) (more : List ℕ) → length rs ≡ k → rowsIn k (rowsWords rs ++ more) ≡ rs
+unfolding rowAt rowsIn rowsWords rowWords wayWords
+rows-back [] zero more h = refl
+rows-back [] (suc k) more h = absurd (omega arith)
+rows-back (r ∷ rs) zero more h = absurd (omega arith)
+rows-back (r ∷ rs) (suc k) more h = ap (λ (l : List Row). r ∷ l) (rows-back rs k more (omega arith))
+
+-- the words that the plan call leaves
+pub call-fair : (c : Counts) (n : ℕ) (table flows rows : List ℕ) (answer : Planned) (flowsThen rowsThen : List ℕ)
+    → Plans c n table flows rows answer flowsThen rowsThen → answerNumber answer ≡ 0 → c .blocks ≤ n → Fair (loadOf c table) (rowsIn (c .blocks) rowsThen)
+unfolding answerOf rowsAfter
+call-fair c n table flows rows answer flowsThen rowsThen p is-0 all =
+    go (planVerdict c n table (length flows) (length rows)) refl (p .answers) (p .rows-left) where
+      go : (v : Verdict) → planVerdict c n table (length flows) (length rows) ≡ v → answer ≡ answerOf c n table flows rows v → rowsThen ≡ rowsAfter c n table flows rows v
+          → Fair (loadOf c table) (rowsIn (c .blocks) rowsThen)
+      go (verdict.Refused r) is a t = absurd (omega (arith, number-above r, rw a at is-0))
+      go verdict.Accepted is a t =
+          let rs = plan (loadOf c table) n in
+          let left = rows-back rs (c .blocks) (drop (15 * length rs) rows) (omega (arith, plan-length c n table (length flows) (length rows) is)) in
+          rw t (subst (Fair (loadOf c table)) (sym left) (plan-fair c n table (length flows) (length rows) is))
