@@ -1,9 +1,9 @@
 -- What is used of the dominant stage: the block has its dominant time there, and the load has the stage.
-use Prim.Native.Nat.{ℕ, zero, suc, _≤_, _<_, max}
-use mathlib.Core.Bool.{Bool, true, false, cond}
-use mathlib.Core.Path.{_≡_, refl}
+use Prim.Native.Nat.{ℕ, zero, suc, _≤_, _<_}
+use mathlib.Core.Bool.{false, cond}
+use mathlib.Core.Path.{_≡_}
 use native.Mathlib.Omega.{arith}
-use borrow.Author.Tests.{eqb-false, eqb-true, ltb-false, ltb-true, lt-ltb}
+use borrow.Author.Tests.{eqb-false, eqb-true, ltb-false}
 use lib.Dec.{eqb, ltb}
 use Rattle.load.specs.declared.block.Block.{Block}
 use Rattle.load.specs.Dominant.{dominantStage, dominantTime}

@@ -2,6 +2,7 @@ pub mod Arriving
 pub mod Calling
 pub mod Deciding
 pub mod Entries
+pub mod FairCall
 pub mod Modes
 pub mod Moving
 pub mod Reaching

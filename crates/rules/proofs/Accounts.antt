@@ -1,7 +1,7 @@
 -- One flow's account, in numbers alone: what the planner's decisions and starts do to it, and what they keep of the flow's service
 -- between two ticks. M is the largest stage time, W a flow's weight times M.
 use Prim.Native.Nat.{ℕ, _+_, _*_, _≤_, _<_}
-use mathlib.Core.Path.{_≡_, refl}
+use mathlib.Core.Path.{_≡_}
 use native.Mathlib.Omega.{arith}
 
 -- What the flow is due of the open round's credit, and what it owes: its excess and, in its turn, what it has spent since.

@@ -1,12 +1,12 @@
 -- What the planner decides when stage 1 is free, as one flow's account sees it: `settles`, for all flows with one gain.
-use Prim.Native.Nat.{ℕ, zero, suc, _+_, _-_, _≤_}
+use Prim.Native.Nat.{ℕ, zero, suc, _+_, _-_}
 use mathlib.Core.Bool.{true, false, true≢false, cond}
-use mathlib.Core.List.{List, [], _∷_, _++_}
+use mathlib.Core.List.{List, [], _∷_}
 use mathlib.Core.Path.{_≡_, refl, sym, _∙_}
 use native.Mathlib.Numerals.{sub-one}
 use native.Mathlib.Omega.{arith}
 use borrow.Author.Tests.{eqb-false, eqb-true, leb-false}
-use lib.Dec.{eqb, leb, ltb}
+use lib.Dec.{eqb, leb}
 use lib.ListN.{length}
 use Rattle.load.proofs.Cases.{by-test, cases}
 use Rattle.rules.specs.declared.round.Round.{Round}
@@ -15,22 +15,22 @@ use Rattle.rules.specs.declared.mode.Mode.the-variants.{Idle, Holds, InT
 use Rattle.rules.specs.declared.mode.Mode.{Mode}
 use Rattle.rules.specs.declared.mode.Turn.{Turn}
 use Rattle.rules.specs.Account.{called, noted, opened, used}
-use Rattle.rules.specs.Load.{Load, blockAt}
-use Rattle.rules.specs.Plan.{Core, State, onward, readied, rejoined, settled, state, taken, tested, upTo, waits, withLine, withRound, woken}
+use Rattle.rules.specs.Load.{Load}
+use Rattle.rules.specs.Plan.{Core, State, onward, readied, rejoined, settled, state, taken, tested, waits, withLine, withRound, woken}
 use Rattle.rules.specs.Waiting.{listed}
-use Rattle.rules.proofs.Balances.{Listed, Split}
+use Rattle.rules.proofs.Balances.{Listed}
 use Rattle.rules.proofs.Unstarted.{Open, Whole, open-waits}
 use Rattle.rules.proofs.Whole.{turn-leaves as leaves-whole, turn-rejoins as rejoins-whole}
 use Rattle.rules.proofs.Accounts.{Account, In, Out, Settles, Standing}
-use Rattle.rules.proofs.Standing.{joined-own, joined-same, round-opens, split-length, standingIn}
+use Rattle.rules.proofs.Standing.{allowed, allowed-none, joined-own, joined-same, round-opens, split-length, standingIn}
 
 abbrev pub listedAs : ℕ → Core → Standing
-listedAs f c = standingIn f (c .round .left) (c .round .credit) (c .line .wait)
+listedAs f c = standingIn f (c .round .left) (allowed f (c .round .credit)) (c .line .wait)
 
 -- A held flow stands as if it still were the head of the list.
 unfoldable pub account : ℕ → Mode → Core → Account
 account f Idle c = Out (listedAs f c)
-account f (Holds h) c = Out (standingIn f (suc (c .round .left)) (c .round .credit) (record { flow = h .flow; excess = h .excess } ∷ c .line .wait))
+account f (Holds h) c = Out (standingIn f (suc (c .round .left)) (allowed f (c .round .credit)) (record { flow = h .flow; excess = h .excess } ∷ c .line .wait))
 account f (InTurn t) c = cond (eqb (t .flow) f) (In (record { due = t .allowance; owed = t .spent })) (Out (listedAs f c))
 
 -- what a round that opens gives, if one opens where the head is taken
@@ -46,26 +46,26 @@ gainAt (InTurn t) c = 0
 -- the head is taken, in a round that opens or in the current one
 call-standing : (f number left credit most : ℕ) (e : Entry) (w : List Entry) → listed f (e ∷ w) ≡ true →
     let r : Round = called (record { number = number; left = left; credit = credit; most = most }) (length (e ∷ w)) in
-    let x = standingIn f left credit (e ∷ w) in
-    let y = standingIn f (suc (r .left)) (r .credit) (e ∷ w) in
-    (y .due ≡ x .due + gainOf left most) × (y .owed ≡ x .owed)
+    let x = standingIn f left (allowed f credit) (e ∷ w) in
+    let y = standingIn f (suc (r .left)) (allowed f (r .credit)) (e ∷ w) in
+    (y .due ≡ x .due + allowed f (gainOf left most)) × (y .owed ≡ x .owed)
 unfolding called gainOf opened used
 call-standing f number left credit most e w there =
     by-test
     (λ (r : Round).
-    let x = standingIn f left credit (e ∷ w) in
-    let y = standingIn f (suc (used r .left)) (used r .credit) (e ∷ w) in
-    (y .due ≡ x .due + gainOf left most) × (y .owed ≡ x .owed))
+    let x = standingIn f left (allowed f credit) (e ∷ w) in
+    let y = standingIn f (suc (used r .left)) (allowed f (used r .credit)) (e ∷ w) in
+    (y .due ≡ x .due + allowed f (gainOf left most)) × (y .owed ≡ x .owed))
     (eqb left 0)
-    (λ h. rw (sub-one, eqb-true left 0 h) (round-opens f most credit (e ∷ w) there))
+    (λ h. rw (sub-one, eqb-true left 0 h) (round-opens f (allowed f most) (allowed f credit) (e ∷ w) there))
     (λ h. current left (eqb-false left 0 h))
   where
     current : (k : ℕ) → (k ≡ 0 → ⊥) →
-        let x = standingIn f k credit (e ∷ w) in
-        let y = standingIn f (suc (k - 1)) credit (e ∷ w) in
-        (y .due ≡ x .due + gainOf k most) × (y .owed ≡ x .owed)
+        let x = standingIn f k (allowed f credit) (e ∷ w) in
+        let y = standingIn f (suc (k - 1)) (allowed f credit) (e ∷ w) in
+        (y .due ≡ x .due + allowed f (gainOf k most)) × (y .owed ≡ x .owed)
     current zero h = absurd (h refl)
-    current (suc k) h = rw sub-one (omega arith, refl)
+    current (suc k) h = rw sub-one (omega (arith, allowed-none f), refl)
 
 -- no change of the account
 same : (Waits : Type 0) (x : Account) → Settles Waits 0 x x
@@ -98,10 +98,10 @@ module _ (L : Load) (k f : ℕ) where
         (λ own.
         let is = eqb-true (t .flow) f own in
         let out : listed f (c .line .wait) ≡ false = rw (← is) (w .1 .apart .0) in
-        rw (own, joined-own f (c .round .credit) (c .round .left) (record { flow = t .flow; excess = t .spent - t .allowance }) (c .line .wait) long out is) (λ _. (refl, omega arith)))
+        rw (own, joined-own f (allowed f (c .round .credit)) (c .round .left) (record { flow = t .flow; excess = t .spent - t .allowance }) (c .line .wait) long out is) (λ _. (refl, omega arith)))
         (λ other.
         let differs = eqb-false (t .flow) f other in
-        rw (other, joined-same f (c .round .credit) (c .round .left) (record { flow = t .flow; excess = t .spent - t .allowance }) (c .line .wait) long (λ is. absurd (differs is))) (λ _. (omega arith, refl)))
+        rw (other, joined-same f (allowed f (c .round .credit)) (c .round .left) (record { flow = t .flow; excess = t .spent - t .allowance }) (c .line .wait) long (λ is. absurd (differs is))) (λ _. (omega arith, refl)))
 
   -- a flow that waits is listed, so no time passes and the head is taken
   module _ (c : Core) (w : Whole L k Idle c) where
@@ -114,12 +114,12 @@ module _ (L : Load) (k f : ℕ) where
     nobody g x c′ [] none = λ o. absurd (none o)
     nobody g x c′ (e ∷ v) none = λ o. absurd (none o)
 
-    readied-settles : SettlesTo c (gainAt Idle c) (account f Idle c) (readied L c)
+    readied-settles : SettlesTo c (allowed f (gainAt Idle c)) (account f Idle c) (readied L c)
     unfolding Settles account gainAt listed readied state taken withLine withRound woken
     readied-settles = go (c .line .wait) refl where
-      go : (v : List Entry) → c .line .wait ≡ v → SettlesTo c (gainAt Idle c) (account f Idle c) (taken (woken L c v) (woken L c v .line .wait))
+      go : (v : List Entry) → c .line .wait ≡ v → SettlesTo c (allowed f (gainAt Idle c)) (account f Idle c) (taken (woken L c v) (woken L c v .line .wait))
       go (e ∷ v) q = rw q (λ o. call-standing f (c .round .number) (c .round .left) (c .round .credit) (c .round .most) e v (rw q at (there o)))
-      go [] q = nobody (gainAt Idle c) (listedAs f c) (woken L c []) (woken L c [] .line .wait) (λ o. true≢false (sym (rw q at (there o))))
+      go [] q = nobody (allowed f (gainAt Idle c)) (listedAs f c) (woken L c []) (woken L c [] .line .wait) (λ o. true≢false (sym (rw q at (there o))))
 
   -- an end of a turn, and then a round that opens
   then-opens : (Waits : Type 0) (g : ℕ) (x : Account) (y : Standing) (z : Account) → Settles Waits 0 x (Out y) → Settles Waits g (Out y) z → Settles Waits g x z
@@ -130,18 +130,18 @@ module _ (L : Load) (k f : ℕ) where
 
   -- after the test of the turn
   abbrev OnwardTo : Core → Account → State → Type 0
-  OnwardTo c x s = SettlesTo c (gainAt (s .mode) (s .core)) x (onward L (s .mode) (s .core))
+  OnwardTo c x s = SettlesTo c (allowed f (gainAt (s .mode) (s .core))) x (onward L (s .mode) (s .core))
 
   tested-settles : (m : Mode) (c : Core) → Whole L k m c → Listed c → OnwardTo c (account f m c) (tested L m c)
   unfolding account gainAt onward rejoined state tested withLine withRound
   tested-settles Idle c w s = readied-settles c w
-  tested-settles (Holds h) c w s = same (OpenAt c) (account f (Holds h) c)
+  tested-settles (Holds h) c w s = rw (allowed-none f) (same (OpenAt c) (account f (Holds h) c))
   tested-settles (InTurn t) c w s =
       let x = account f (InTurn t) c in
       let over = t .spent - t .allowance in
       by-test (OnwardTo c x) (waits L c (t .flow))
       (λ waiting.
-      by-test (OnwardTo c x) (leb (t .spent) (t .allowance)) (λ _. same (OpenAt c) x)
+      by-test (OnwardTo c x) (leb (t .spent) (t .allowance)) (λ _. rw (allowed-none f) (same (OpenAt c) x))
       (λ past. then-opens (OpenAt c) _ x _ _ (turn-rejoins t c w s past) (readied-settles (rejoined c (t .flow) over) (rejoins-whole L k t c w over waiting))))
       (λ ends. then-opens (OpenAt c) _ x _ _ (turn-leaves t c w s ends) (readied-settles c (leaves-whole L k t c w ends)))
 
@@ -150,6 +150,6 @@ abbrev pub gain : Load → State → ℕ
 gain L s = let s′ = tested L (s .mode) (s .core) in gainAt (s′ .mode) (s′ .core)
 
 pub settled-settles : (L : Load) (k f : ℕ) (s : State) → Whole L k (s .mode) (s .core) → Listed (s .core)
-    → Settles (Open L (s .core .from) (s .core .line .next) f) (gain L s) (account f (s .mode) (s .core)) (account f (settled L s .mode) (settled L s .core))
+    → Settles (Open L (s .core .from) (s .core .line .next) f) (allowed f (gain L s)) (account f (s .mode) (s .core)) (account f (settled L s .mode) (settled L s .core))
 unfolding settled
 settled-settles L k f s w l = tested-settles L k f (s .mode) (s .core) w l

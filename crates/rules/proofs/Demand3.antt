@@ -1,6 +1,6 @@
 -- Demand 3: the whole plan of every load that the plan call accepts is fair, and so are the rows that the call leaves in the row
 -- table where it answers 0 with a limit that covers all blocks. (`Fair` has the bound, `Turns` the two-turn limit.)
-use Prim.Native.Nat.{ℕ, zero, suc, _+_, _*_, _≤_, _<_, max, min}
+use Prim.Native.Nat.{ℕ, zero, suc, _+_, _*_, _≤_, _<_, min}
 use mathlib.Core.List.{List, [], _∷_, _++_}
 use mathlib.Core.Path.{_≡_, refl, sym, ap, subst}
 use native.Mathlib.Omega.{arith}
@@ -18,7 +18,7 @@ use Rattle.rules.specs.declared.row.Row.{Row}
 use Rattle.rules.specs.Calls.{answerNumber, answerOf, Plans, planVerdict, rowsAfter}
 use Rattle.rules.specs.Fairness.{Fair, largestOf, largestTime}
 use Rattle.rules.specs.Load.{blockAt, Load, loadOf}
-use Rattle.rules.specs.Plan.{origin, plan, run}
+use Rattle.rules.specs.Plan.{plan}
 use Rattle.rules.specs.Rows.{rowAt, rowsIn, rowsWords, rowWords, wayWords}
 use Rattle.rules.proofs.Accepting.{accepted, sorted, stage-there}
 use Rattle.rules.proofs.Fair.{origin-fair}

@@ -1,9 +1,8 @@
 -- The bound of demand 3. Up to t₁ the first flow's account is kept by `Early`; from the first start after t₁ on, a credit C, that of
 -- the rounds opened since, lies between what the two flows have had: a ≤ C + 6 M (`Most`) and C ≤ b + 4 M (`Least`).
 use Prim.Native.Nat.{ℕ, zero, suc, _+_, _*_, _≤_, _<_}
-use mathlib.Core.Bool.{true, false}
-use mathlib.Core.List.{List, [], _∷_}
-use mathlib.Core.Option.{some}
+use mathlib.Core.Bool.{true}
+use mathlib.Core.List.{List, _∷_}
 use mathlib.Core.Path.{_≡_, refl}
 use native.Mathlib.Omega.{arith}
 use borrow.Author.Tests.{leb-false, leb-true, ltb-false, ltb-true}
@@ -13,11 +12,11 @@ use Rattle.load.proofs.Cases.{cases}
 use Rattle.rules.specs.declared.row.Row.{Row}
 use Rattle.rules.specs.Load.{Load}
 use Rattle.rules.specs.Plan.{Started, State, origin, run, state, upTo}
-use Rattle.rules.proofs.Blocks.{getD-zeros}
 use Rattle.rules.proofs.Unstarted.{Open}
 use Rattle.rules.specs.Fairness.{servedBy, service, waitsAt}
 use Rattle.rules.proofs.Accounts.{Account, Early, Least, Most, early-ends, early-settles, early-starts, least-ends, least-enters, least-settles, least-starts, most-ends, most-enters, most-settles, most-starts, starts-none}
 use Rattle.rules.proofs.Decisions.{account, gain}
+use Rattle.rules.proofs.Standing.{allowed, allowed-adds, allowed-none}
 use Rattle.rules.proofs.Starts.{Sound, endOf}
 use Rattle.rules.proofs.Steps.{Good, Stepped, good-sound, origin-good, run-next, stepped}
 use Rattle.rules.proofs.WaitingRows.{waits-open, waits-past}
@@ -38,12 +37,17 @@ module _ (L : Load) (M : ℕ) (ok : Sound L M) (t₁ t₂ i j : ℕ) where
   -- the accounts x of i and y of j, with services a and b so far, around a credit
   record Around (a b end gate : ℕ) (x y : Account) : Type 0 where
     credit : ℕ
-    most : Most M M a credit x
-    least : Least M M t₂ b credit end gate y
+    most : Most M (allowed i M) a (allowed i credit) x
+    least : Least M (allowed j M) t₂ b (allowed j credit) end gate y
 
   data Phase (a b : ℕ) (s : State) : Type 0 where
-    Before : Early M M t₁ a (endAt s) (gateAt i s) (accountAt i s) → Phase a b s
+    Before : Early M (allowed i M) t₁ a (endAt s) (gateAt i s) (accountAt i s) → Phase a b s
     Inside : t₁ ≤ s .core .clock → a ≤ b + 10 * M → (s .core .clock < t₂ → Around a b (endAt s) (gateAt j s) (accountAt i s) (accountAt j s)) → Phase a b s
+
+  -- what the two accounts come to: the weights leave the bound here
+  together : (a b credit : ℕ) → a ≤ allowed i credit + 3 * allowed i M + 3 * M → allowed j credit ≤ b + 3 * allowed j M + M → a ≤ b + 10 * M
+  unfolding allowed
+  together a b credit most least = omega arith
 
   abbrev WaitsNow : ℕ → State → Type 0
   WaitsNow f s = t₁ ≤ s .core .clock → s .core .clock < t₂ → Open L (s .core .from) (s .core .line .next) f
@@ -61,29 +65,29 @@ module _ (L : Load) (M : ℕ) (ok : Sound L M) (t₁ t₂ i j : ℕ) where
         cases (ltb start t₂)
         (λ e.
         let before = ltb-true start t₂ e in
-        let most : Most M M (a + served i q) (r .credit) (accountAt i (q .then))
-        = most-starts M M t₁ t₂ (endAt s) start _ _ _ _ _ _ (p .made .ticks) from before a (r .credit) _ _ (p .moves i t₁ t₂ .starts) (r .most) in
-        let least : Least M M t₂ (b + served j q) (r .credit) (endAt (q .then)) (gateAt j (q .then)) (accountAt j (q .then))
-        = rw (p .made .ends) (least-starts M M t₁ t₂ (endAt s) start _ _ _ _ _ _ (p .made .ticks) from before b (r .credit) _ _ (p .moves j t₁ t₂ .starts) (r .least)) in
+        let most : Most M (allowed i M) (a + served i q) (allowed i (r .credit)) (accountAt i (q .then))
+        = most-starts M (allowed i M) t₁ t₂ (endAt s) start _ _ _ _ _ _ (p .made .ticks) from before a (allowed i (r .credit)) _ _ (p .moves i t₁ t₂ .starts) (r .most) in
+        let least : Least M (allowed j M) t₂ (b + served j q) (allowed j (r .credit)) (endAt (q .then)) (gateAt j (q .then)) (accountAt j (q .then))
+        = rw (p .made .ends) (least-starts M (allowed j M) t₁ t₂ (endAt s) start _ _ _ _ _ _ (p .made .ticks) from before b (allowed j (r .credit)) _ _ (p .moves j t₁ t₂ .starts) (r .least)) in
         Inside (omega (arith, p .made .goes-on))
-        (omega (arith, most-ends M M _ _ _ (good-sound L M ok i (k + 1) (q .then) (p .good)) most, least-ends M M _ _ _ _ _ _ (good-sound L M ok j (k + 1) (q .then) (p .good)) least))
+        (together _ _ (r .credit) (most-ends M (allowed i M) _ _ _ (good-sound L M ok i (k + 1) (q .then) (p .good)) most) (least-ends M (allowed j M) _ _ _ _ _ _ (good-sound L M ok j (k + 1) (q .then) (p .good)) least))
         (λ _. record { credit = r .credit; most = most; least = least }))
         (λ e.
         let past = ltb-false start t₂ e in
         Inside (omega (arith, p .made .goes-on))
-        (omega (arith, starts-none t₁ t₂ start _ _ _ _ _ _ past _ _ (p .moves i t₁ t₂ .starts), most-ends M M _ _ _ (p .moves i t₁ t₂ .sound) (r .most), least-ends M M _ _ _ _ _ _ (p .moves j t₁ t₂ .sound) (r .least)))
+        (omega (arith, starts-none t₁ t₂ start _ _ _ _ _ _ past _ _ (p .moves i t₁ t₂ .starts), together a b (r .credit) (most-ends M (allowed i M) _ _ _ (p .moves i t₁ t₂ .sound) (r .most)) (least-ends M (allowed j M) _ _ _ _ _ _ (p .moves j t₁ t₂ .sound) (r .least))))
         (λ h. absurd (omega (arith, p .made .goes-on))))
 
     -- a step, where both flows wait at the clock if it lies between the ticks
     phase-next : Good L M ok k s → WaitsNow i s → WaitsNow j s → Phase a b s → Phase (a + served i q) (b + served j q) (q .then)
     phase-next g wᵢ wⱼ (Before e) =
         let settles = p .moves i t₁ t₂ .settles in
-        let early : Early M M t₁ a (endAt s) (gateAt i s) (between i) = early-settles M M t₁ a _ _ _ _ _ _ (good-sound L M ok i k s g) settles e in
+        let early : Early M (allowed i M) t₁ a (endAt s) (gateAt i s) (between i) = early-settles M (allowed i M) t₁ a _ _ _ _ _ _ (good-sound L M ok i k s g) settles e in
         cases (leb start t₁)
-        (λ h. Before (rw (p .made .ends) (early-starts M M t₁ t₂ (endAt s) start _ _ _ _ _ _ (p .made .ticks) a (leb-true start t₁ h) _ _ (p .moves i t₁ t₂ .sound) (p .moves i t₁ t₂ .starts) early)))
+        (λ h. Before (rw (p .made .ends) (early-starts M (allowed i M) t₁ t₂ (endAt s) start _ _ _ _ _ _ (p .made .ticks) a (leb-true start t₁ h) _ _ (p .moves i t₁ t₂ .sound) (p .moves i t₁ t₂ .starts) early)))
         (λ h.
         from-start (omega (arith, leb-false start t₁ h))
-        (record { credit = 0; most = most-enters M M t₁ a _ _ _ (p .moves i t₁ t₂ .sound) early; least = least-enters M M t₂ b _ _ _ (p .moves j t₁ t₂ .sound) }))
+        (record { credit = 0; most = rw (allowed-none i) (most-enters M (allowed i M) t₁ a _ _ _ (p .moves i t₁ t₂ .sound) early); least = rw (allowed-none j) (least-enters M (allowed j M) t₂ b _ _ _ (p .moves j t₁ t₂ .sound)) }))
     phase-next g wᵢ wⱼ (Inside from bound r) =
         cases (ltb (s .core .clock) t₂)
         (λ h.
@@ -92,8 +96,8 @@ module _ (L : Load) (M : ℕ) (ok : Sound L M) (t₁ t₂ i j : ℕ) where
         from-start (omega (arith, p .later))
         (record {
           credit = x .credit + gain L s;
-          most = most-settles M M a (x .credit) (gain L s) _ (wᵢ from now) _ _ (p .moves i t₁ t₂ .settles) (x .most);
-          least = least-settles M M t₂ b (x .credit) _ _ (gain L s) _ (wⱼ from now) _ _ (good-sound L M ok j k s g) (p .moves j t₁ t₂ .settles) (x .least);
+          most = rw (allowed-adds i (x .credit) (gain L s)) (most-settles M (allowed i M) a (allowed i (x .credit)) (allowed i (gain L s)) _ (wᵢ from now) _ _ (p .moves i t₁ t₂ .settles) (x .most));
+          least = rw (allowed-adds j (x .credit) (gain L s)) (least-settles M (allowed j M) t₂ b (allowed j (x .credit)) _ _ (allowed j (gain L s)) _ (wⱼ from now) _ _ (good-sound L M ok j k s g) (p .moves j t₁ t₂ .settles) (x .least));
         }))
         (λ h.
         let past = ltb-false (s .core .clock) t₂ h in
@@ -102,7 +106,8 @@ module _ (L : Load) (M : ℕ) (ok : Sound L M) (t₁ t₂ i j : ℕ) where
         (λ now. absurd (omega (arith, p .later, p .made .goes-on))))
 
   phase-ends : (k a b : ℕ) (s : State) → Good L M ok k s → Phase a b s → a ≤ b + 10 * M
-  phase-ends k a b s g (Before e) = omega (arith, early-ends M M t₁ a _ _ _ (good-sound L M ok i k s g) e)
+  unfolding allowed
+  phase-ends k a b s g (Before e) = omega (arith, early-ends M (allowed i M) t₁ a _ _ _ (good-sound L M ok i k s g) e)
   phase-ends k a b s g (Inside from bound r) = bound
 
   -- the flow waits at each tick from the clock on that lies between the two, by the rows still to come

@@ -1,7 +1,7 @@
 -- What demand 3 promises isn't empty. A load in which two flows wait from tick 22 up to 97, and one gets 67 ticks more than the
 -- other, 6.7 times the largest stage time: so a bound of six times would be false. And E3, with two turns open at a tick.
-use Prim.Native.Nat.{ℕ, zero, suc, _+_, _*_, _≤_, _<_}
-use mathlib.Core.Bool.{Bool, true, false, _&&_}
+use Prim.Native.Nat.{ℕ, zero, suc, _+_}
+use mathlib.Core.Bool.{Bool, true, _&&_}
 use mathlib.Core.List.{List, [], _∷_}
 use mathlib.Core.Path.{_≡_, refl}
 use native.Mathlib.Omega.{arith}

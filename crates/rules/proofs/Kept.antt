@@ -1,7 +1,6 @@
 -- What the planner keeps between two starts, beside the balance of `Balances` and the blocks of `Unstarted`: credit and excess are
 -- at most M, which bounds every dominant time; stage 1 is free at the clock; all arrivals up to the clock are taken.
-use Prim.Native.Nat.{ℕ, zero, suc, _+_, _-_, _≤_, _<_, max}
-use mathlib.Core.Bool.{true, false}
+use Prim.Native.Nat.{ℕ, zero, suc, _+_, _-_, _≤_, _<_}
 use mathlib.Core.List.{List, [], _∷_}
 use mathlib.Core.Path.{_≡_, refl}
 use native.Mathlib.Omega.{arith}
@@ -14,7 +13,8 @@ use Rattle.rules.specs.declared.mode.Mode.the-variants.{Idle, Holds, InT
 use Rattle.rules.specs.declared.mode.Mode.{Mode}
 use Rattle.rules.specs.Account.{noted}
 use Rattle.rules.specs.Load.{Load, blockAt}
-use Rattle.rules.specs.Plan.{Core, Line, State, arrivals, arrived, none-yet, onward, origin, readied, rejoined, settled, state, taken, tested, upTo, waits, withLine, withRound, woken}
+use Rattle.rules.specs.Plan.{Core, Line, State, arrivals, none-yet, onward, origin, readied, rejoined, settled, state, taken, tested, upTo, waits, withLine, withRound, woken}
+use Rattle.rules.proofs.Standing.{allowed}
 use Rattle.rules.proofs.Waiting.{called-within}
 
 module _ (L : Load) where
@@ -35,7 +35,7 @@ module _ (L : Load) where
     unfoldable pub ModeKept : ℕ → Mode → Core → Type 0
     ModeKept x Idle c = Unit {0}
     ModeKept x (Holds h) c = c .clock ≤ h .ready
-    ModeKept x (InTurn t) c = (t .allowance ≤ M) × (t .spent ≤ t .allowance + x)
+    ModeKept x (InTurn t) c = (t .allowance ≤ allowed (t .flow) M) × (t .spent ≤ t .allowance + x)
 
     pub record Kept (x : ℕ) (m : Mode) (c : Core) : Type 0 where
       pub credit : c .round .credit ≤ M

@@ -1,9 +1,7 @@
 -- The runs of a block that starts, stage by stage, and what they give between two ticks.
-use Prim.Native.Nat.{ℕ, zero, suc, _+_, _-_, _≤_, _<_, max, min}
-use mathlib.Core.Bool.{cond}
-use mathlib.Core.Path.{_≡_, refl}
+use Prim.Native.Nat.{ℕ, _+_, _-_, _≤_}
+use mathlib.Core.Path.{_≡_}
 use native.Mathlib.Omega.{arith}
-use lib.Dec.{eqb, ltb}
 use Rattle.load.specs.declared.block.Block.{Block}
 use Rattle.rules.specs.declared.stages.Span.{Span}
 use Rattle.rules.specs.declared.stages.Way.{Way}

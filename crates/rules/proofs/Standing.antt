@@ -17,6 +17,23 @@ use Rattle.rules.specs.Waiting.{listed}
 use Rattle.rules.proofs.Balances.{Split}
 use Rattle.rules.proofs.Accounts.{Standing}
 
+-- What a flow is allowed of a credit: its weight times the credit, and all weights are 1. Beside the laws below, only `Decisions`
+-- and `Starts` know that a turn's allowance is this, and `Fair` that it makes ten times the largest stage time in the end.
+unfoldable pub allowed : ℕ → ℕ → ℕ
+allowed f credit = credit
+
+pub allowed-adds : (f a b : ℕ) → allowed f (a + b) ≡ allowed f a + allowed f b
+unfolding allowed
+allowed-adds f a b = refl
+
+pub allowed-none : (f : ℕ) → allowed f 0 ≡ 0
+unfolding allowed
+allowed-none f = refl
+
+pub allowed-grows : (f a b : ℕ) → a ≤ b → allowed f a ≤ allowed f b
+unfolding allowed
+allowed-grows f a b h = h
+
 unfoldable pub standingIn : ℕ → ℕ → ℕ → List Entry → Standing
 standingIn f left allowance [] = record { due = 0; owed = 0 }
 standingIn f zero allowance (e ∷ w) = cond (eqb (e .flow) f) (record { due = 0; owed = e .excess }) (standingIn f zero allowance w)
@@ -30,14 +47,16 @@ split-length (suc left) credit most [] s = absurd s
 split-length (suc left) credit most (e ∷ w) s = omega (arith, split-length left credit most w (s .1))
 
 -- the first within their allowance, the others within M
-pub standing-sound : (f left credit most M : ℕ) (w : List Entry) → credit ≤ M → most ≤ M → Split left credit most w
-    → (standingIn f left credit w .due ≤ M) × (standingIn f left credit w .owed ≤ standingIn f left credit w .due + M)
-unfolding Split standingIn
+abbrev pub Within : ℕ → ℕ → Standing → Type 0
+Within f M x = (x .due ≤ allowed f M) × (x .owed ≤ x .due + M)
+
+pub standing-sound : (f left credit most M : ℕ) (w : List Entry) → credit ≤ M → most ≤ M → Split left credit most w → Within f M (standingIn f left (allowed f credit) w)
+unfolding Split allowed standingIn
 standing-sound f left credit most M [] h k s = (omega arith, omega arith)
 standing-sound f zero credit most M (e ∷ w) h k s =
-    by-test (λ (x : Standing). (x .due ≤ M) × (x .owed ≤ x .due + M)) (eqb (e .flow) f) (λ _. omega (arith, s .0)) (λ _. standing-sound f zero credit most M w h k (s .1))
+    by-test (Within f M) (eqb (e .flow) f) (λ _. omega (arith, s .0)) (λ _. standing-sound f zero credit most M w h k (s .1))
 standing-sound f (suc left) credit most M (e ∷ w) h k s =
-    by-test (λ (x : Standing). (x .due ≤ M) × (x .owed ≤ x .due + M)) (eqb (e .flow) f) (λ _. omega (arith, s .0)) (λ _. standing-sound f left credit most M w h k (s .1))
+    by-test (Within f M) (eqb (e .flow) f) (λ _. omega (arith, s .0)) (λ _. standing-sound f left credit most M w h k (s .1))
 
 module _ (f allowance : ℕ) where
   -- a flow joins the tail: another, or this one with no excess

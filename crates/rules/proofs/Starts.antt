@@ -1,7 +1,7 @@
 -- What a start does: its row, the state after it, and each flow's account.
-use Prim.Native.Nat.{ℕ, zero, suc, _+_, _-_, _≤_, _<_, max}
-use mathlib.Core.Bool.{true, false, cond}
-use mathlib.Core.List.{List, [], _∷_}
+use Prim.Native.Nat.{ℕ, _+_, _-_, _≤_, _<_}
+use mathlib.Core.Bool.{true, cond}
+use mathlib.Core.List.{List}
 use mathlib.Core.Option.{some}
 use mathlib.Core.Path.{_≡_, refl, sym, _∙_}
 use native.Mathlib.Omega.{arith}
@@ -12,14 +12,13 @@ use lib.Seq.{getD-set-other, getD-set-same}
 use Rattle.load.specs.declared.block.Block.{Block}
 use Rattle.load.specs.Dominant.{dominantStage, dominantTime}
 use Rattle.load.proofs.Cases.{cases}
-use Rattle.rules.specs.declared.row.Row.{Row}
 use Rattle.rules.specs.declared.stages.Way.{Way}
 use Rattle.rules.specs.declared.mode.HeldFlow.{HeldFlow}
 use Rattle.rules.specs.declared.mode.Mode.the-variants.{Idle, Holds, InTurn}
 use Rattle.rules.specs.declared.mode.Mode.{Mode}
 use Rattle.rules.specs.declared.mode.Turn.{Turn}
 use Rattle.rules.specs.Load.{Load, blockAt}
-use Rattle.rules.specs.Plan.{Core, Started, State, after, begins, begun, first, further, heldUntil, oldest, rowOf, spent, started, state, turnOf, upTo, waits, where-waits}
+use Rattle.rules.specs.Plan.{Core, Started, after, begins, begun, first, further, heldUntil, oldest, rowOf, spent, started, state, turnOf, upTo, waits, where-waits}
 use Rattle.rules.specs.Stages.{lastRun, runAt, wayOf}
 use Rattle.rules.specs.Within.{Accepted}
 use Rattle.rules.proofs.Balances.{HeldBalanced, Listed}
@@ -29,10 +28,10 @@ use Rattle.rules.proofs.Unstarted.{flowAt, oldest-from, set-cases}
 use Rattle.rules.specs.Fairness.{servedBy, ticksWithin}
 use Rattle.rules.proofs.Accounts.{In, Out, Served, Starts, Ticks}
 use Rattle.rules.proofs.Decisions.{account, listedAs}
-use Rattle.load.proofs.DominantStage.{dominant-time, timeAt}
+use Rattle.load.proofs.DominantStage.{dominant-time}
 use Rattle.rules.proofs.Kept.{Kept, KeptAt, ModeKept, upTo-kept}
 use Rattle.rules.proofs.Spans.{passes-served, way-passes, way-ticks}
-use Rattle.rules.proofs.Standing.{arrivals-same, split-length, standingIn}
+use Rattle.rules.proofs.Standing.{allowed, allowed-grows, arrivals-same, split-length, standingIn}
 
 -- what is used of acceptance; M bounds every stage time
 pub record Sound (L : Load) (M : ℕ) : Type 0 where
@@ -93,7 +92,7 @@ module _ (L : Load) (M : ℕ) (ok : Sound L M) where
         }
 
     -- the turn has spent one dominant time more
-    after-kept : (hold : ℕ) (gate : List ℕ) → length gate ≡ 64 → c .round .credit ≤ M → c .round .most ≤ M → t .allowance ≤ M → t .spent ≤ t .allowance
+    after-kept : (hold : ℕ) (gate : List ℕ) → length gate ≡ 64 → c .round .credit ≤ M → c .round .most ≤ M → t .allowance ≤ allowed (t .flow) M → t .spent ≤ t .allowance
         → KeptAt L M M (after L c t gate (rowOf L c t hold place))
     unfolding ModeKept after rowOf spent state upTo wayOf
     after-kept hold gate gates credit most allowance balance =
@@ -108,7 +107,7 @@ module _ (L : Load) (M : ℕ) (ok : Sound L M) where
         let s = after L c t gate (rowOf L c t hold place) in
         account f (s .mode) (s .core) ≡ cond (eqb (t .flow) f) (In (record { due = t .allowance; owed = t .spent + dominantTime block })) (Out (listedAs f c))
     unfolding account after rowOf spent state upTo
-    after-account f hold gate long = rw (arrivals-same f (c .round .credit) L _ _ _ (c .round .left) (c .line) long .0) refl
+    after-account f hold gate long = rw (arrivals-same f (allowed f (c .round .credit)) L _ _ _ (c .round .left) (c .line) long .0) refl
 
   -- a start as flow f sees it, from an account and a gate before
   abbrev StartsAs : ℕ → ℕ → ℕ → Mode → Core → Started → Type 0
@@ -150,7 +149,7 @@ module _ (L : Load) (M : ℕ) (ok : Sound L M) where
   first-next : (h : HeldFlow) (c : Core) → Kept L M 0 (Holds h) c → Listed c → HeldBalanced (Holds h) c →
       let c′ = begun (upTo L (Holds h) (heldUntil h c) c) in
       waits L c′ (h .flow) ≡ true → Next (Holds h) c (first L c′ (turnOf h c) (heldUntil h c - h .ready))
-  unfolding HeldBalanced ModeKept Starts account after begun first heldUntil rowOf servedBy standingIn state turnOf upTo wayOf
+  unfolding HeldBalanced ModeKept Starts account after allowed begun first heldUntil rowOf servedBy standingIn state turnOf upTo wayOf
   first-next h c v s balance waiting =
       let tick = heldUntil h c in
       let t = turnOf h c in
@@ -166,7 +165,7 @@ module _ (L : Load) (M : ℕ) (ok : Sound L M) where
         later = omega (arith, v .mode);
         made = made;
         turned = First refl (omega arith) refl;
-        kept = after-kept t c′ waiting (moved .later .0) (moved .free) (v .froms) (tick - h .ready) gate (length-set (c .gate) (h .flow) last ∙ v .gates) (v .credit) (v .most) (v .credit) balance;
+        kept = after-kept t c′ waiting (moved .later .0) (moved .free) (v .froms) (tick - h .ready) gate (length-set (c .gate) (h .flow) last ∙ v .gates) (v .credit) (v .most) (allowed-grows (h .flow) _ _ (v .credit)) balance;
         starts =
             λ f t₁ t₂.
             rw (after-account t c′ waiting (moved .later .0) (moved .free) (v .froms) f (tick - h .ready) gate (come .1))
@@ -176,7 +175,7 @@ module _ (L : Load) (M : ℕ) (ok : Sound L M) where
             rw own (made .served t₁ t₂, refl, refl, rw (← same) (omega arith), rw (← same) (getD-set-same (c .gate) (h .flow) last 0 (omega (arith, room, v .gates)))))
             (λ other.
             let differs = eqb-false (h .flow) f other in
-            let came = arrivals-same f (c .round .credit) L (Holds h) tick (L .counts .blocks - c .line .next) (c .round .left) (c .line) long .0 in
+            let came = arrivals-same f (allowed f (c .round .credit)) L (Holds h) tick (L .counts .blocks - c .line .next) (c .round .left) (c .line) long .0 in
             rw (other, came) (refl, refl, refl, getD-set-other (c .gate) (h .flow) f last 0 (λ q. differs (sym q)))));
       }
 

@@ -4,11 +4,11 @@ use mathlib.Core.List.{List, [], _∷_}
 use mathlib.Core.Option.{Option, none, some}
 use mathlib.Core.Path.{_≡_, refl}
 use native.Mathlib.Omega.{arith}
-use borrow.Author.Tests.{ltb-true}
+use borrow.Author.Tests.{eqb-true, ltb-true}
 use lib.Dec.{eqb, leb, ltb}
 use lib.ListN.{getD}
 use Rattle.load.specs.Dominant.{dominantTime}
-use Rattle.load.proofs.Cases.{by-test, cases}
+use Rattle.load.proofs.Cases.{by-test}
 use Rattle.rules.specs.declared.entry.Entry.{Entry}
 use Rattle.rules.specs.declared.row.Row.{Row}
 use Rattle.rules.specs.declared.mode.Mode.the-variants.{Idle, Holds, InTurn}
@@ -23,8 +23,8 @@ use Rattle.rules.proofs.Accounts.{Account, Settles, Starts, standing}
 use Rattle.rules.proofs.Accounts as accounts
 use Rattle.rules.proofs.Decisions.{account, gain, settled-settles}
 use Rattle.rules.proofs.Kept.{Kept, KeptAt, ModeKept, origin-kept, settled-kept, tested-kept}
-use Rattle.rules.proofs.Standing.{standing-sound}
-use Rattle.rules.proofs.Starts.{Made, Next, Sound, endOf, Turned, lastStart, started-next}
+use Rattle.rules.proofs.Standing.{allowed, standing-sound}
+use Rattle.rules.proofs.Starts.{Made, Sound, endOf, Turned, lastStart, started-next}
 
 -- the rows from a state on: none, or that of the next start and those after it
 pub run-next : (L : Load) (n : ℕ) (s : State) (P : List Row → Type 0) → P [] → ((q : Started) → step L s ≡ some q → P (q .row ∷ run L n (q .then))) → P (run L (suc n) s)
@@ -84,13 +84,13 @@ module _ (L : Load) where
 
 module _ (L : Load) (M : ℕ) (ok : Sound L M) where
   -- an account is within its bounds
-  account-sound : (f x : ℕ) (m : Mode) (c : Core) → x ≤ M → Kept L M x m c → Listed c → HeldBalanced m c → accounts.Sound M M (account f m c)
+  account-sound : (f x : ℕ) (m : Mode) (c : Core) → x ≤ M → Kept L M x m c → Listed c → HeldBalanced m c → accounts.Sound M (allowed f M) (account f m c)
   unfolding HeldBalanced ModeKept Split account standing turnOf
   account-sound f x Idle c h v s b = standing-sound f (c .round .left) (c .round .credit) (c .round .most) M (c .line .wait) (v .credit) (v .most) s
   account-sound f x (Holds e) c h v s b = standing-sound f (suc (c .round .left)) (c .round .credit) (c .round .most) M (record { flow = e .flow; excess = e .excess } ∷ c .line .wait) (v .credit) (v .most) (b, s)
   account-sound f x (InTurn t) c h v s b =
-      by-test (accounts.Sound M M) (eqb (t .flow) f)
-      (λ _. omega (arith, v .mode))
+      by-test (accounts.Sound M (allowed f M)) (eqb (t .flow) f)
+      (λ own. (rw (eqb-true (t .flow) f own) at (v .mode .0), omega (arith, v .mode .1)))
       (λ _. standing-sound f (c .round .left) (c .round .credit) (c .round .most) M (c .line .wait) (v .credit) (v .most) s)
 
   -- what holds between two starts, with k blocks started
@@ -99,7 +99,7 @@ module _ (L : Load) (M : ℕ) (ok : Sound L M) where
     pub balanced : Balanced s
     pub kept : KeptAt L M M s
 
-  pub good-sound : (f k : ℕ) (s : State) → Good k s → accounts.Sound M M (account f (s .mode) (s .core))
+  pub good-sound : (f k : ℕ) (s : State) → Good k s → accounts.Sound M (allowed f M) (account f (s .mode) (s .core))
   good-sound f k s g = account-sound f M (s .mode) (s .core) (omega arith) (g .kept) (g .balanced .0) (g .balanced .1)
 
   pub origin-good : Good 0 (origin L)
@@ -108,8 +108,8 @@ module _ (L : Load) (M : ℕ) (ok : Sound L M) where
   -- a flow's account by a step, with the one between the decision and the start
   pub record Moves (f t₁ t₂ : ℕ) (s : State) (q : Started) : Type 0 where
     pub between : Account
-    pub sound : accounts.Sound M M between
-    pub settles : Settles (Open L (s .core .from) (s .core .line .next) f) (gain L s) (account f (s .mode) (s .core)) between
+    pub sound : accounts.Sound M (allowed f M) between
+    pub settles : Settles (Open L (s .core .from) (s .core .line .next) f) (allowed f (gain L s)) (account f (s .mode) (s .core)) between
     pub starts : Starts t₁ t₂ (q .row .way .one .start) (lastStart L M ok (q .row .way)) (endOf L M ok (q .row .way)) (dominantTime (blockAt (L .table) (q .row .block)))
         (servedBy f t₁ t₂ (q .row)) (getD (s .core .gate) f 0) (getD (q .then .core .gate) f 0) between (account f (q .then .mode) (q .then .core))
 

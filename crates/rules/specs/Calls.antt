@@ -15,7 +15,6 @@ use Rattle.load.specs.Tests.{blockVerdict, countsVerdict}
 use Rattle.rules.specs.declared.answer.Planned.{Planned}
 use Rattle.rules.specs.declared.answer.Planned.the-variants.{Refused, Plan}
 use Rattle.rules.specs.declared.answer.Summary.{Summary}
-use Rattle.rules.specs.declared.row.Row.{Row}
 use Rattle.rules.specs.Counts.{none, records, summary}
 use Rattle.rules.specs.Load.{loadOf}
 use Rattle.rules.specs.Plan.{plan}

@@ -1,6 +1,6 @@
 -- The plan by Multi-Resource Round Robin, as document 01 completes it: rows, one for each start.
-use Prim.Native.Nat.{ℕ, zero, suc, _+_, _*_, _-_, min, max}
-use mathlib.Core.Bool.{Bool, true, false, cond, _&&_, _||_}
+use Prim.Native.Nat.{ℕ, zero, suc, _+_, _-_, min, max}
+use mathlib.Core.Bool.{Bool, false, cond, _||_}
 use mathlib.Core.List.{List, [], _∷_, _++_}
 use mathlib.Core.Option.{Option, none, some}
 use lib.Dec.{eqb, leb, ltb}

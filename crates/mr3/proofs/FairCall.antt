@@ -1,0 +1,19 @@
+-- Demand 3 of the plan call itself: whatever answer and words its contract allows, where it answers 0 with a limit that covers all
+-- blocks, the rows that the row table holds then are fair.
+use Prim.Native.Nat.{_≤_}
+use mathlib.Core.Path.{_≡_}
+use denote.Ref.{now}
+use Rattle.rules.specs.Calls.{answerNumber}
+use Rattle.rules.specs.Fairness.{Fair}
+use Rattle.rules.specs.Load.{loadOf}
+use Rattle.rules.specs.Rows.{rowsIn}
+use Rattle.rules.proofs.Demand3.{call-fair}
+use Rattle.mr3.proofs.plan.Reads as plan
+
+-- what a contract gives for every call: lifetimes, arguments, result and parameters as the call returns
+module _ {K : Type 0} {Args Result Exit : K → Type 0} (post : (κs : K) → Args κs → Result κs → Exit κs → Type 0) where
+  abbrev pub Gives : ((κs : K) → Args κs → Result κs → Exit κs → Type 0) → Type 0
+  Gives P = (κs : K) (a : Args κs) (r : Result κs) (s : Exit κs) → post κs a r s → P κs a r s
+
+pub plan-call-fair : Gives plan.Post (λ κs a r s. answerNumber r ≡ 0 → a .0 .blocks ≤ a .1 .0 → Fair (loadOf (a .0) (now (a .1 .1 .0))) (rowsIn (a .0 .blocks) (now (s .1 .1 .1 .1 .0))))
+plan-call-fair κs a r s p = call-fair (a .0) (a .1 .0) (now (a .1 .1 .0)) (now (a .1 .1 .1 .0)) (now (a .1 .1 .1 .1 .0)) r (now (s .1 .1 .1 .0)) (now (s .1 .1 .1 .1 .0)) p
