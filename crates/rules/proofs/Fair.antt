@@ -15,13 +15,18 @@ use Rattle.rules.specs.Plan.{Started, State, origin, run, state, upTo}
 use Rattle.rules.proofs.Unstarted.{Open}
 use Rattle.rules.specs.Fairness.{servedBy, service, waitsAt}
 use Rattle.rules.proofs.Accounts.{Account, Early, Least, Most, early-ends, early-settles, early-starts, least-ends, least-enters, least-settles, least-starts, most-ends, most-enters, most-settles, most-starts, starts-none}
+use Rattle.rules.proofs.Accounts as accounts
 use Rattle.rules.proofs.Decisions.{account, gain}
 use Rattle.rules.proofs.Standing.{allowed, allowed-adds, allowed-none}
 use Rattle.rules.proofs.Starts.{Sound, endOf}
-use Rattle.rules.proofs.Steps.{Good, Stepped, good-sound, origin-good, run-next, stepped}
+use Rattle.rules.proofs.Steps.{Good, Moves, Stepped, good-sound, origin-good, run-next, stepped}
 use Rattle.rules.proofs.WaitingRows.{waits-open, waits-past}
 
 module _ (L : Load) (M : ℕ) (ok : Sound L M) (t₁ t₂ i j : ℕ) where
+  -- a flow's weight times M
+  abbrev W : ℕ → ℕ
+  W f = allowed f M
+
   abbrev accountAt : ℕ → State → Account
   accountAt f s = account f (s .mode) (s .core)
 
@@ -37,15 +42,15 @@ module _ (L : Load) (M : ℕ) (ok : Sound L M) (t₁ t₂ i j : ℕ) where
   -- the accounts x of i and y of j, with services a and b so far, around a credit
   record Around (a b end gate : ℕ) (x y : Account) : Type 0 where
     credit : ℕ
-    most : Most M (allowed i M) a (allowed i credit) x
-    least : Least M (allowed j M) t₂ b (allowed j credit) end gate y
+    most : Most M (W i) a (allowed i credit) x
+    least : Least M (W j) t₂ b (allowed j credit) end gate y
 
   data Phase (a b : ℕ) (s : State) : Type 0 where
-    Before : Early M (allowed i M) t₁ a (endAt s) (gateAt i s) (accountAt i s) → Phase a b s
+    Before : Early M (W i) t₁ a (endAt s) (gateAt i s) (accountAt i s) → Phase a b s
     Inside : t₁ ≤ s .core .clock → a ≤ b + 10 * M → (s .core .clock < t₂ → Around a b (endAt s) (gateAt j s) (accountAt i s) (accountAt j s)) → Phase a b s
 
   -- what the two accounts come to: the weights leave the bound here
-  together : (a b credit : ℕ) → a ≤ allowed i credit + 3 * allowed i M + 3 * M → allowed j credit ≤ b + 3 * allowed j M + M → a ≤ b + 10 * M
+  together : (a b credit : ℕ) → a ≤ allowed i credit + 3 * W i + 3 * M → allowed j credit ≤ b + 3 * W j + M → a ≤ b + 10 * M
   unfolding allowed
   together a b credit most least = omega arith
 
@@ -54,60 +59,70 @@ module _ (L : Load) (M : ℕ) (ok : Sound L M) (t₁ t₂ i j : ℕ) where
 
   -- a start from t₁ on
   module _ (k : ℕ) (s : State) (q : Started) (p : Stepped L M ok k s q) (a b : ℕ) where
+    abbrev move : (f : ℕ) → Moves L M ok f t₁ t₂ s q
+    move f = p .moves f t₁ t₂
+
     abbrev between : ℕ → Account
-    between f = p .moves f t₁ t₂ .between
+    between f = move f .between
+
+    abbrev Next : Type 0
+    Next = Phase (a + served i q) (b + served j q) (q .then)
 
     abbrev start : ℕ
     start = q .row .way .one .start
 
-    from-start : t₁ ≤ start → Around a b (endAt s) (gateAt j s) (between i) (between j) → Phase (a + served i q) (b + served j q) (q .then)
+    then-sound : (f : ℕ) → accounts.Sound M (W f) (accountAt f (q .then))
+    then-sound f = good-sound L M ok f (k + 1) (q .then) (p .good)
+
+    from-start : t₁ ≤ start → Around a b (endAt s) (gateAt j s) (between i) (between j) → Next
     from-start from r =
+        let C = r .credit in
         cases (ltb start t₂)
         (λ e.
-        let before = ltb-true start t₂ e in
-        let most : Most M (allowed i M) (a + served i q) (allowed i (r .credit)) (accountAt i (q .then))
-        = most-starts M (allowed i M) t₁ t₂ (endAt s) start _ _ _ _ _ _ (p .made .ticks) from before a (allowed i (r .credit)) _ _ (p .moves i t₁ t₂ .starts) (r .most) in
-        let least : Least M (allowed j M) t₂ (b + served j q) (allowed j (r .credit)) (endAt (q .then)) (gateAt j (q .then)) (accountAt j (q .then))
-        = rw (p .made .ends) (least-starts M (allowed j M) t₁ t₂ (endAt s) start _ _ _ _ _ _ (p .made .ticks) from before b (allowed j (r .credit)) _ _ (p .moves j t₁ t₂ .starts) (r .least)) in
+        let to = ltb-true start t₂ e in
+        let most : Most M (W i) (a + served i q) (allowed i C) (accountAt i (q .then))
+        = most-starts M (W i) t₁ t₂ (endAt s) start _ _ _ _ _ _ (p .made .ticks) from to a (allowed i C) _ _ (move i .starts) (r .most) in
+        let least : Least M (W j) t₂ (b + served j q) (allowed j C) (endAt (q .then)) (gateAt j (q .then)) (accountAt j (q .then))
+        = rw (p .made .ends) (least-starts M (W j) t₁ t₂ (endAt s) start _ _ _ _ _ _ (p .made .ticks) from to b (allowed j C) _ _ (move j .starts) (r .least)) in
         Inside (omega (arith, p .made .goes-on))
-        (together _ _ (r .credit) (most-ends M (allowed i M) _ _ _ (good-sound L M ok i (k + 1) (q .then) (p .good)) most) (least-ends M (allowed j M) _ _ _ _ _ _ (good-sound L M ok j (k + 1) (q .then) (p .good)) least))
-        (λ _. record { credit = r .credit; most = most; least = least }))
+        (together _ _ C (most-ends M (W i) _ _ _ (then-sound i) most) (least-ends M (W j) _ _ _ _ _ _ (then-sound j) least))
+        (λ _. record { credit = C; most = most; least = least }))
         (λ e.
         let past = ltb-false start t₂ e in
-        Inside (omega (arith, p .made .goes-on))
-        (omega (arith, starts-none t₁ t₂ start _ _ _ _ _ _ past _ _ (p .moves i t₁ t₂ .starts), together a b (r .credit) (most-ends M (allowed i M) _ _ _ (p .moves i t₁ t₂ .sound) (r .most)) (least-ends M (allowed j M) _ _ _ _ _ _ (p .moves j t₁ t₂ .sound) (r .least))))
-        (λ h. absurd (omega (arith, p .made .goes-on))))
+        let none = starts-none t₁ t₂ start _ _ _ _ _ _ past _ _ (move i .starts) in
+        let bound = together a b C (most-ends M (W i) _ _ _ (move i .sound) (r .most)) (least-ends M (W j) _ _ _ _ _ _ (move j .sound) (r .least)) in
+        Inside (omega (arith, p .made .goes-on)) (omega (arith, none, bound)) (λ h. absurd (omega (arith, p .made .goes-on))))
 
     -- a step, where both flows wait at the clock if it lies between the ticks
-    phase-next : Good L M ok k s → WaitsNow i s → WaitsNow j s → Phase a b s → Phase (a + served i q) (b + served j q) (q .then)
+    phase-next : Good L M ok k s → WaitsNow i s → WaitsNow j s → Phase a b s → Next
     phase-next g wᵢ wⱼ (Before e) =
-        let settles = p .moves i t₁ t₂ .settles in
-        let early : Early M (allowed i M) t₁ a (endAt s) (gateAt i s) (between i) = early-settles M (allowed i M) t₁ a _ _ _ _ _ _ (good-sound L M ok i k s g) settles e in
+        let early : Early M (W i) t₁ a (endAt s) (gateAt i s) (between i)
+        = early-settles M (W i) t₁ a _ _ _ _ _ _ (good-sound L M ok i k s g) (move i .settles) e in
         cases (leb start t₁)
-        (λ h. Before (rw (p .made .ends) (early-starts M (allowed i M) t₁ t₂ (endAt s) start _ _ _ _ _ _ (p .made .ticks) a (leb-true start t₁ h) _ _ (p .moves i t₁ t₂ .sound) (p .moves i t₁ t₂ .starts) early)))
+        (λ h. Before (rw (p .made .ends) (early-starts M (W i) t₁ t₂ (endAt s) start _ _ _ _ _ _ (p .made .ticks) a (leb-true start t₁ h) _ _ (move i .sound) (move i .starts) early)))
         (λ h.
         from-start (omega (arith, leb-false start t₁ h))
-        (record { credit = 0; most = rw (allowed-none i) (most-enters M (allowed i M) t₁ a _ _ _ (p .moves i t₁ t₂ .sound) early); least = rw (allowed-none j) (least-enters M (allowed j M) t₂ b _ _ _ (p .moves j t₁ t₂ .sound)) }))
+        (record {
+          credit = 0;
+          most = rw (allowed-none i) (most-enters M (W i) t₁ a _ _ _ (move i .sound) early);
+          least = rw (allowed-none j) (least-enters M (W j) t₂ b _ _ _ (move j .sound));
+        }))
     phase-next g wᵢ wⱼ (Inside from bound r) =
         cases (ltb (s .core .clock) t₂)
         (λ h.
-        let now = ltb-true (s .core .clock) t₂ h in
-        let x = r now in
-        from-start (omega (arith, p .later))
-        (record {
-          credit = x .credit + gain L s;
-          most = rw (allowed-adds i (x .credit) (gain L s)) (most-settles M (allowed i M) a (allowed i (x .credit)) (allowed i (gain L s)) _ (wᵢ from now) _ _ (p .moves i t₁ t₂ .settles) (x .most));
-          least = rw (allowed-adds j (x .credit) (gain L s)) (least-settles M (allowed j M) t₂ b (allowed j (x .credit)) _ _ (allowed j (gain L s)) _ (wⱼ from now) _ _ (good-sound L M ok j k s g) (p .moves j t₁ t₂ .settles) (x .least));
-        }))
+        let to = ltb-true (s .core .clock) t₂ h in
+        let C = r to .credit in
+        let most = most-settles M (W i) a (allowed i C) (allowed i (gain L s)) _ (wᵢ from to) _ _ (move i .settles) (r to .most) in
+        let least = least-settles M (W j) t₂ b (allowed j C) _ _ (allowed j (gain L s)) _ (wⱼ from to) _ _ (good-sound L M ok j k s g) (move j .settles) (r to .least) in
+        from-start (omega (arith, p .later)) (record { credit = C + gain L s; most = rw (allowed-adds i C (gain L s)) most; least = rw (allowed-adds j C (gain L s)) least }))
         (λ h.
         let past = ltb-false (s .core .clock) t₂ h in
-        Inside (omega (arith, p .later, p .made .goes-on))
-        (omega (arith, starts-none t₁ t₂ start _ _ _ _ _ _ (omega (arith, p .later)) _ _ (p .moves i t₁ t₂ .starts)))
-        (λ now. absurd (omega (arith, p .later, p .made .goes-on))))
+        let none = starts-none t₁ t₂ start _ _ _ _ _ _ (omega (arith, p .later)) _ _ (move i .starts) in
+        Inside (omega (arith, p .later, p .made .goes-on)) (omega (arith, none)) (λ to. absurd (omega (arith, p .later, p .made .goes-on))))
 
   phase-ends : (k a b : ℕ) (s : State) → Good L M ok k s → Phase a b s → a ≤ b + 10 * M
   unfolding allowed
-  phase-ends k a b s g (Before e) = omega (arith, early-ends M (allowed i M) t₁ a _ _ _ (good-sound L M ok i k s g) e)
+  phase-ends k a b s g (Before e) = omega (arith, early-ends M (W i) t₁ a _ _ _ (good-sound L M ok i k s g) e)
   phase-ends k a b s g (Inside from bound r) = bound
 
   -- the flow waits at each tick from the clock on that lies between the two, by the rows still to come
