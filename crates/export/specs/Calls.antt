@@ -6,11 +6,12 @@ use mathlib.Core.List.{List, [], _∷_, _++_}
 use lib.Dec.{ltb}
 use lib.ListN.{length, drop}
 use Rattle.load.specs.declared.counts.Counts.{Counts}
-use Rattle.loadfile.specs.Calls.{reading, shownName, tableAfter}
+use Rattle.loadfile.specs.declared.Answer.{Answer}
+use Rattle.loadfile.specs.Calls.{Reads, answerCounts, shownName}
 use Rattle.loadfile.specs.Calls as reader
 use Rattle.rules.specs.declared.answer.Planned.{Planned}
 use Rattle.rules.specs.declared.answer.Summary.{Summary}
-use Rattle.rules.specs.Calls.{flowsAfter, planVerdict, rowsAfter}
+use Rattle.rules.specs.Calls.{Plans, answerSummary}
 use Rattle.rules.specs.Calls as planner
 
 -- The words of lent counts, in document 01's order.
@@ -20,11 +21,12 @@ countWords c = c .stages ∷ c .flows ∷ c .blocks ∷ []
 abbrev pub summaryWords : Summary → List ℕ
 summaryWords s = s .blocks ∷ s .turns ∷ s .rounds ∷ s .held ∷ s .ticks ∷ s .end ∷ []
 
--- The reader's answer is `Reads`'s, as a number and three words; the table is as `Reads` has it.
+-- The reader's answer, as a number and three words, and the table as the reader leaves it.
 pub record ReadsInWords (file table : List ℕ) (number : ℕ) (tableThen countsThen : List ℕ) : Type 0 where
-  pub numbers : number ≡ reader.answerNumber (reader.answerOf (reading file table))
-  pub leaves : tableThen ≡ tableAfter (reading file table) table
-  pub counts : countsThen ≡ countWords (reader.answerCounts (reader.answerOf (reading file table)))
+  pub answer : Answer
+  pub reads : Reads file table answer tableThen
+  pub numbers : number ≡ reader.answerNumber answer
+  pub counts : countsThen ≡ countWords (answerCounts answer)
 
 -- The name at the start of the lent room, where the room is long enough, and otherwise the room as before. Room beyond the
 -- name is left as found.
@@ -35,13 +37,9 @@ pub record Names (file standing : List ℕ) (flow : ℕ) (room : List ℕ) (size
   pub measures : size ≡ length (shownName file standing flow)
   pub leaves : roomThen ≡ roomAfter (shownName file standing flow) room
 
--- The plan call's answer is `Plans`'s, as a number and six words; the tables are as `Plans` has them.
-module _ (c : Counts) (n : ℕ) (table flows rows : List ℕ) where
-  abbrev pub planned : Planned
-  planned = planner.answerOf c n table flows rows (planVerdict c n table (length flows) (length rows))
-
-  pub record PlansInWords (number : ℕ) (flowsThen rowsThen countsThen : List ℕ) : Type 0 where
-    pub numbers : number ≡ planner.answerNumber planned
-    pub flows-left : flowsThen ≡ flowsAfter c n table flows rows (planVerdict c n table (length flows) (length rows))
-    pub rows-left : rowsThen ≡ rowsAfter c n table flows rows (planVerdict c n table (length flows) (length rows))
-    pub counts : countsThen ≡ summaryWords (planner.answerSummary planned)
+-- The plan call's answer, as a number and six words, and the tables as the plan call leaves them.
+pub record PlansInWords (c : Counts) (n : ℕ) (table flows rows : List ℕ) (number : ℕ) (flowsThen rowsThen countsThen : List ℕ) : Type 0 where
+  pub answer : Planned
+  pub plans : Plans c n table flows rows answer flowsThen rowsThen
+  pub numbers : number ≡ planner.answerNumber answer
+  pub counts : countsThen ≡ summaryWords (answerSummary answer)
