@@ -1,3 +1,3 @@
--- What the proofs of several functions use, and that each call has one answer.
+-- What the proof of the name call uses, and that each call has one answer.
+mod Copied
 mod Unique
-mod Words

@@ -1,14 +1,13 @@
 // The calls for programs in C and Rust, as a static library: `examples/xarbulest.h` declares them. Nothing is decided here. What
 // the crates answer as an enum, a struct or a part of a slice cannot cross the boundary, so it is written as a number and
 // words that the caller lends. Counts are lent as arrays of just their length, which leaves no length to be tested.
+mod words;
+
 ghost use mathlib.Core.Path.{_≡_};
 ghost use Rattle.load.specs.Refusals.{verdictNumber};
 ghost use Rattle.loadfile.specs.Calls.{soundness};
 ghost use Rattle.export.specs.Calls.{Names, PlansInWords, ReadsInWords};
 use load::counts::Counts;
-use load::refusal::Verdict;
-use loadfile::Answer;
-use rules::answer::Planned;
 
 // The soundness call: document 01's number, 0 for a sound file.
 #[no_mangle]
@@ -23,16 +22,7 @@ pub extern "C" fn xarbulest_sound(file: &[u8]) -> u64
 pub extern "C" fn xarbulest_read(file: &[u8], table: &mut [u32], counts: &mut [u64; 3]) -> u64
     ensures { λ r. ⌜ ReadsInWords (now (file .entry)) (now (table .entry)) r (now (table .exit)) (now (counts .exit)) ⌝ }
 {
-    match loadfile::read(file, table) {
-        Answer::Refused(why) => {
-            *counts = [0, 0, 0];
-            load::refusal::number(Verdict::Refused(why))
-        }
-        Answer::Read(found) => {
-            *counts = [found.stages as u64, found.flows as u64, found.blocks as u64];
-            0
-        }
-    }
+    words::put_read(loadfile::read(file, table), counts)
 }
 
 // The name call: the length of the name that is shown for a flow. The name is copied into the room, since a part of a slice
@@ -72,14 +62,5 @@ pub extern "C" fn xarbulest_plan(
         flows,
         blocks,
     };
-    match mr3::plan(asked, limit, table, records, rows) {
-        Planned::Refused(why) => {
-            *counts = [0, 0, 0, 0, 0, 0];
-            load::refusal::number(Verdict::Refused(why))
-        }
-        Planned::Plan(s) => {
-            *counts = [s.blocks, s.turns, s.rounds, s.held, s.ticks, s.end];
-            0
-        }
-    }
+    words::put_plan(mr3::plan(asked, limit, table, records, rows), counts)
 }

@@ -1,5 +1,5 @@
 -- `export::xarbulest_name` meets its contract: a name that is longer than the room leaves it, and any other is copied.
-use Rattle.export.proofs.Words.{name-copied, name-too-long}
+use Rattle.export.proofs.Copied.{name-copied, name-too-long}
 use borrow.Author.Needs.{needs}
 use Rattle.export.proofs.xarbulest_name.Statement.{statement}
 use Rattle.export.proofs.xarbulest_name.Tie as tie
