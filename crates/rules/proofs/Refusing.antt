@@ -7,10 +7,11 @@ use Rattle.load.specs.declared.counts.Counts.{Counts}
 use Rattle.load.specs.declared.refusal.Verdict.{Verdict}
 use Rattle.load.specs.declared.refusal.Verdict.the-variants as verdict
 use Rattle.rules.specs.declared.answer.Planned.{Planned}
+use Rattle.rules.specs.declared.record.FlowRecord.{FlowRecord}
 use Rattle.rules.specs.Calls.{answerNumber, answerOf, answerSummary, flowsAfter, Plans, planVerdict, rowsAfter}
 use Rattle.rules.specs.Counts.{none}
 
-pub plan-refuses : (c : Counts) (n : ℕ) (table flows rows : List ℕ) (answer : Planned) (flowsThen rowsThen : List ℕ)
+pub plan-refuses : (c : Counts) (n : ℕ) (table : List ℕ) (flows : List FlowRecord) (rows : List ℕ) (answer : Planned) (flowsThen : List FlowRecord) (rowsThen : List ℕ)
     → Plans c n table flows rows answer flowsThen rowsThen → (answerNumber answer ≡ 0 → ⊥)
     → (answerSummary answer ≡ none) × (flowsThen ≡ flows) × (rowsThen ≡ rows)
 unfolding answerOf flowsAfter rowsAfter
