@@ -6,10 +6,10 @@ pub mod FairCall
 pub mod Modes
 pub mod Moving
 pub mod Reaching
+pub mod Recording
 pub mod Running
 pub mod Runs
 pub mod Seeking
 pub mod Starting
 pub mod Taking
-pub mod Tallying
 pub mod Unique

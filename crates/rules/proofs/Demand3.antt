@@ -70,7 +70,7 @@ pub call-fair : (c : Counts) (n : ℕ) (table : List ℕ) (flows : List FlowReco
 unfolding answerOf rowsAfter
 call-fair c n table flows rows answer flowsThen rowsThen p is-0 all =
     go (planVerdict c n table (length flows) (length rows)) refl (p .answers) (p .rows-left) where
-      go : (v : Verdict) → planVerdict c n table (length flows) (length rows) ≡ v → answer ≡ answerOf c n table flows rows v → rowsThen ≡ rowsAfter c n table flows rows v
+      go : (v : Verdict) → planVerdict c n table (length flows) (length rows) ≡ v → answer ≡ answerOf c n table v → rowsThen ≡ rowsAfter c n table rows v
           → Fair (loadOf c table) (rowsIn (c .blocks) rowsThen)
       go (verdict.Refused r) is a t = absurd (omega (arith, number-above r, rw a at is-0))
       go verdict.Accepted is a t =

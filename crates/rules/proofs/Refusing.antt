@@ -17,7 +17,7 @@ pub plan-refuses : (c : Counts) (n : ℕ) (table : List ℕ) (flows : List FlowR
 unfolding answerOf flowsAfter rowsAfter
 plan-refuses c n table flows rows answer flowsThen rowsThen p not-0 =
     go (planVerdict c n table (length flows) (length rows)) (p .answers) (p .flows-left) (p .rows-left) where
-      go : (v : Verdict) → answer ≡ answerOf c n table flows rows v → flowsThen ≡ flowsAfter c n table flows rows v → rowsThen ≡ rowsAfter c n table flows rows v
+      go : (v : Verdict) → answer ≡ answerOf c n table v → flowsThen ≡ flowsAfter c n table flows v → rowsThen ≡ rowsAfter c n table rows v
           → (answerSummary answer ≡ none) × (flowsThen ≡ flows) × (rowsThen ≡ rows)
       go (verdict.Refused r) e f t = (rw e refl, f, t)
       go verdict.Accepted e f t = absurd (not-0 (rw e refl))

@@ -53,22 +53,22 @@ abbrev pub answerSummary : Planned → Summary
 answerSummary (Refused r) = none
 answerSummary (Plan s) = s
 
-module _ (c : Counts) (n : ℕ) (table : List ℕ) (flows : List FlowRecord) (rows : List ℕ) where
+module _ (c : Counts) (n : ℕ) (table : List ℕ) where
   unfoldable pub answerOf : Verdict → Planned
   answerOf (verdict.Refused r) = Refused r
   answerOf verdict.Accepted = Plan (summary (c .stages) none (plan (loadOf c table) n))
 
   -- A refusal leaves every table as before; room beyond need is left as found.
-  unfoldable pub flowsAfter : Verdict → List FlowRecord
-  flowsAfter (verdict.Refused r) = flows
-  flowsAfter verdict.Accepted = records table 0 (replicate (c .flows) unlisted ++ drop (c .flows) flows) (plan (loadOf c table) n)
+  unfoldable pub flowsAfter : List FlowRecord → Verdict → List FlowRecord
+  flowsAfter flows (verdict.Refused r) = flows
+  flowsAfter flows verdict.Accepted = records table 0 (replicate (c .flows) unlisted ++ drop (c .flows) flows) (plan (loadOf c table) n)
 
-  unfoldable pub rowsAfter : Verdict → List ℕ
-  rowsAfter (verdict.Refused r) = rows
-  rowsAfter verdict.Accepted = rowsWords (plan (loadOf c table) n) ++ drop (15 * length (plan (loadOf c table) n)) rows
+  unfoldable pub rowsAfter : List ℕ → Verdict → List ℕ
+  rowsAfter rows (verdict.Refused r) = rows
+  rowsAfter rows verdict.Accepted = rowsWords (plan (loadOf c table) n) ++ drop (15 * length (plan (loadOf c table) n)) rows
 
 -- the answer and what the two lent tables hold after the call
 pub record Plans (c : Counts) (n : ℕ) (table : List ℕ) (flows : List FlowRecord) (rows : List ℕ) (answer : Planned) (flowsThen : List FlowRecord) (rowsThen : List ℕ) : Type 0 where
-  pub answers : answer ≡ answerOf c n table flows rows (planVerdict c n table (length flows) (length rows))
-  pub flows-left : flowsThen ≡ flowsAfter c n table flows rows (planVerdict c n table (length flows) (length rows))
-  pub rows-left : rowsThen ≡ rowsAfter c n table flows rows (planVerdict c n table (length flows) (length rows))
+  pub answers : answer ≡ answerOf c n table (planVerdict c n table (length flows) (length rows))
+  pub flows-left : flowsThen ≡ flowsAfter c n table flows (planVerdict c n table (length flows) (length rows))
+  pub rows-left : rowsThen ≡ rowsAfter c n table rows (planVerdict c n table (length flows) (length rows))
