@@ -1,3 +1,4 @@
+pub mod Again
 pub mod Arriving
 pub mod Calling
 pub mod Deciding
@@ -7,9 +8,11 @@ pub mod Modes
 pub mod Moving
 pub mod Reaching
 pub mod Recording
+pub mod Relend
 pub mod Running
 pub mod Runs
 pub mod Seeking
 pub mod Starting
+pub mod Steps
 pub mod Taking
 pub mod Unique

@@ -61,7 +61,7 @@ fn add(blocks: &[u32], rows: &[u64], k: usize, left: usize) -> Change
 }
 
 // The next change, where so many are left: the last ones add the rows in their order, those before empty the records.
-fn next(blocks: &[u32], rows: &[u64], listed: usize, left: usize) -> Change
+pub fn next(blocks: &[u32], rows: &[u64], listed: usize, left: usize) -> Change
     requires { ⌜ Readable listed (now blocks) (now rows) ⌝ }
     ensures { λ r. ⌜ r ≡ changeOf (now (blocks .entry)) (now (rows .entry)) listed left ⌝ }
 {
@@ -109,7 +109,7 @@ fn changed(old: FlowRecord, change: Change) -> FlowRecord
 }
 
 // Changes the record of one flow.
-fn note(flows: &mut [FlowRecord], change: Change)
+pub fn note(flows: &mut [FlowRecord], change: Change)
     requires { ⌜ (change .flow < length (now flows)) × Fits (getD (now flows) (change .flow) unlisted) change ⌝ }
     ensures { λ _. ⌜ now (flows .exit) ≡ noted (now (flows .entry)) change ⌝ }
 {
