@@ -9,7 +9,7 @@ use native.Mathlib.Nat.{add-zero}
 use native.Mathlib.Omega.{arith}
 use borrow.Author.Tests.{eqb-false, eqb-true, le-ltb, lt-ltb}
 use lib.Dec.{eqb, ltb}
-use lib.ListN.{drop, getD, length, length-append, length-replicate, length-set, replicate, set}
+use lib.ListN.{drop, getD, length, length-append, length-drop, length-replicate, length-set, replicate, set}
 use lib.Seq.{drop-drop, getD-drop, getD-set-other, getD-set-same}
 use Rattle.load.specs.declared.counts.Counts.{Counts}
 use Rattle.load.specs.declared.refusal.Refusal.{Refusal}
@@ -43,6 +43,10 @@ module _ (table words : List ℕ) (n : ℕ) (fs : List FlowRecord) where
   flow-noted : (left : ℕ) → n ≤ left → noted fs (changeOf table words n (suc left)) ≡ set fs (left - n) unlisted
   unfolding kind empties changed
   flow-noted left h = rw (le-ltb left n h) refl
+
+pub length-changed : (table words : List ℕ) (n left : ℕ) (fs : List FlowRecord) → length (changedAll table words n left fs) ≡ length fs
+length-changed table words n zero fs = refl
+length-changed table words n (suc left) fs = length-changed table words n left _ ∙ length-set fs _ _
 
 -- ---- the rows are added
 module _ (table words : List ℕ) (n : ℕ) where
@@ -180,6 +184,7 @@ module _ (c : Counts) (n : ℕ) (table : List ℕ) (flows : List FlowRecord) (ro
   -- what is asked of the changes, and what they give
   pub record Made (listed changes : ℕ) (answer : Planned) (rowsThen : List ℕ) : Type 0 where
     pub readable : Readable listed table rowsThen
+    pub same-length : length rowsThen ≡ length rows
     pub fit : AllFit table rowsThen listed changes flows
     pub plans : Plans c n table flows rows answer (changedAll table rowsThen listed changes flows) rowsThen
 
@@ -187,6 +192,7 @@ module _ (c : Counts) (n : ℕ) (table : List ℕ) (flows : List FlowRecord) (ro
   unfolding flowsAfter rowsAfter
   made-refused r e = record {
     readable = record { few = omega arith; room = omega arith; each = λ k h. absurd (omega arith) };
+    same-length = refl;
     fit = tt;
     plans = record {
       answers = rw e refl;
@@ -243,6 +249,7 @@ module _ (c : Counts) (n : ℕ) (table : List ℕ) (flows : List FlowRecord) (ro
     unfolding flowsAfter rowsAfter turnAbove
     made-accepted = record {
       readable = readable;
+      same-length = rw (length-append, wide, long, length-drop) (omega (arith, ok .2));
       fit =
           flows-fit table words N (c .flows) flows (ok .1)
           (rows-fit table words N (c .flows) N 0 _ short (readable .few) (omega arith) (emptied-counted table words N (c .flows) flows));
