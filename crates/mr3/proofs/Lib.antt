@@ -6,6 +6,7 @@ pub mod Entries
 pub mod FairCall
 pub mod Modes
 pub mod Moving
+pub mod PlanReads
 pub mod PlanSteps
 pub mod Reaching
 pub mod Recording
