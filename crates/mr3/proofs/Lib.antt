@@ -1,4 +1,5 @@
 pub mod Again
+pub mod Arrays
 pub mod Arriving
 pub mod Calling
 pub mod Deciding
@@ -6,6 +7,7 @@ pub mod Entries
 pub mod FairCall
 pub mod Modes
 pub mod Moving
+pub mod PlanCall
 pub mod PlanReads
 pub mod PlanSteps
 pub mod Reaching

@@ -271,3 +271,11 @@ module _ (c : Counts) (n : ℕ) (table : List ℕ) (flows : List FlowRecord) (ro
         → a .rows ≡ rowsListed c n v → a .changes ≡ changesMade c n v → Made (a .rows) (a .changes) (a .answer) rowsThen
     go (verdict.Refused r) e x y z u = rw (x, y, z, u) (made-refused r e)
     go verdict.Accepted e x y z u = rw (x, y, z, u) (made-accepted e)
+
+  -- the row table keeps its length
+  pub rows-long : (answer : Planned) (flowsThen : List FlowRecord) (rowsThen : List ℕ) → Plans c n table flows rows answer flowsThen rowsThen → length rowsThen ≡ length rows
+  unfolding rowsAfter
+  rows-long answer flowsThen rowsThen p = ap length (p .rows-left) ∙ go (planVerdict c n table (length flows) (length rows)) refl where
+    go : (v : Verdict) → planVerdict c n table (length flows) (length rows) ≡ v → length (rowsAfter c n table rows v) ≡ length rows
+    go (verdict.Refused r) e = refl
+    go verdict.Accepted e = made-accepted e .same-length
