@@ -54,7 +54,6 @@ fn run<'a>(
     file: &'a [u8],
     standing: &'a [u8],
     table: &mut [u32],
-    flows: &mut [u64],
     rows: &mut [u64],
 ) -> bool {
     match call {
@@ -66,7 +65,7 @@ fn run<'a>(
             reader(file, &mut table[0..words]);
         }
         Call::Name(flow) => name(file, standing, flow),
-        Call::Plan => return planned::run(standing, file, table, flows, rows),
+        Call::Plan => return planned::run(standing, file, table, rows),
     }
     true
 }
@@ -80,7 +79,6 @@ fn fill_and_run(
     file: &mut [u8],
     standing: &mut [u8],
     table: &mut [u32],
-    flows: &mut [u64],
     rows: &mut [u64],
 ) -> bool {
     if !fill(standing) {
@@ -89,7 +87,7 @@ fn fill_and_run(
     if !fill(file) {
         return false;
     }
-    run(call, file, standing, table, flows, rows)
+    run(call, file, standing, table, rows)
 }
 
 // Reads what follows the head, and runs the case on parts of just the lengths that the head gives. It answers false where
@@ -99,7 +97,6 @@ pub fn finish(
     file: &mut [u8],
     standing: &mut [u8],
     table: &mut [u32],
-    flows: &mut [u64],
     rows: &mut [u64],
 ) -> bool {
     let call = head.call;
@@ -116,7 +113,6 @@ pub fn finish(
         &mut file[0..file_end],
         &mut standing[0..standing_end],
         table,
-        flows,
         rows,
     )
 }

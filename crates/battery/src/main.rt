@@ -3,19 +3,14 @@ mod case;
 mod head;
 mod line;
 mod planned;
+mod records;
 mod table;
 mod words;
 
 use head::Next;
 
 // Reads and runs the next case, and answers whether to go on.
-fn turn(
-    file: &mut [u8],
-    standing: &mut [u8],
-    table: &mut [u32],
-    flows: &mut [u64],
-    rows: &mut [u64],
-) -> bool {
+fn turn(file: &mut [u8], standing: &mut [u8], table: &mut [u32], rows: &mut [u64]) -> bool {
     match head::read() {
         Next::End => false,
         Next::Bad => {
@@ -23,7 +18,7 @@ fn turn(
             false
         }
         Next::Case(head) => {
-            let is_whole = case::finish(head, file, standing, table, flows, rows);
+            let is_whole = case::finish(head, file, standing, table, rows);
             if !is_whole {
                 line::bad_case();
             }
@@ -38,15 +33,13 @@ fn main() {
     let mut file_room = [0u8; 65_536];
     let mut standing_room = [0u8; 65_536];
     let mut table_room = [0u32; 8_192];
-    let mut flow_room = [0u64; 384];
     let mut row_room = [0u64; 16_384];
     let file: &mut [u8] = &mut file_room;
     let standing: &mut [u8] = &mut standing_room;
     let table: &mut [u32] = &mut table_room;
-    let flows: &mut [u64] = &mut flow_room;
     let rows: &mut [u64] = &mut row_room;
     let mut turns: u32 = 1_000_000;
-    while turns > 0 && turn(file, standing, table, flows, rows) {
+    while turns > 0 && turn(file, standing, table, rows) {
         turns -= 1;
     }
 }

@@ -3,6 +3,8 @@ ghost use Prim.Native.Nat.{_+_, _*_, _<_, _≤_};
 ghost use lib.ListN.{length};
 use crate::head;
 use crate::line;
+use crate::records;
+use crate::records::Flows;
 use crate::words;
 use load::counts::Counts;
 use load::refusal::Verdict;
@@ -11,8 +13,8 @@ use rules::answer::Planned;
 struct Parameters {
     limit: u64,
     counts: Counts,
-    // The words of the flow table and of the row table that are lent.
-    flow_words: usize,
+    // The records of the flow table and the words of the row table that are lent.
+    flow_records: usize,
     row_words: usize,
 }
 
@@ -41,7 +43,7 @@ fn read_parameters(bytes: &[u8]) -> Parameters
     Parameters {
         limit: eight(bytes, 0) as u64,
         counts,
-        flow_words: 3 * four(bytes, 32),
+        flow_records: four(bytes, 32),
         row_words: four(bytes, 36),
     }
 }
@@ -74,47 +76,55 @@ fn put_planned(out: &mut line::Line, planned: Planned) -> usize {
     }
 }
 
-fn plan(counts: Counts, limit: u64, table: &[u32], flows: &mut [u64], rows: &mut [u64]) {
-    words::mark(flows, 5_000_000_000);
-    words::mark(rows, 6_000_000_000);
-    let planned = mr3::plan(counts, limit, table, flows, rows);
+// Writes the case's line: the answer, the records lent and the rows.
+pub fn put(planned: Planned, flows: Flows, n: usize, rows: &[u64])
+    requires { ⌜ n ≤ 128 ⌝ }
+{
+    let all = records::words(flows);
+    let words: &[u64] = &all;
     let mut out = line::empty();
     let at = put_planned(&mut out, planned);
-    let at = words::put(&mut out, at, flows);
+    let at = words::put(&mut out, at, &words[0..3 * n]);
     let at = words::put(&mut out, at, rows);
     line::end(&mut out, at);
 }
 
-// Lends just the words that the parameters give. It answers false where there are fewer.
-fn lend(given: Parameters, table: &[u32], flows: &mut [u64], rows: &mut [u64]) -> bool {
+// Lends the plan call the first n records. A function that lends records is proved by hand: it takes them by value, so that
+// no other function lends them.
+fn call(mut flows: Flows, n: usize, counts: Counts, limit: u64, table: &[u32], rows: &mut [u64])
+    requires { ⌜ n ≤ 128 ⌝ }
+{
+    let planned = mr3::plan(counts, limit, table, &mut flows[..n], rows);
+    put(planned, flows, n, rows);
+}
+
+// Lends just the records and the words that the parameters give. It answers false where there are fewer.
+fn lend(given: Parameters, table: &[u32], rows: &mut [u64]) -> bool {
     let counts = given.counts;
-    let flow_words = given.flow_words;
+    let flow_records = given.flow_records;
     let row_words = given.row_words;
-    if flows.len() < flow_words {
+    if 128 < flow_records {
         return false;
     }
     if rows.len() < row_words {
         return false;
     }
-    plan(
+    let lent = &mut rows[0..row_words];
+    words::mark(lent, 6_000_000_000);
+    call(
+        records::marked(),
+        flow_records,
         counts,
         given.limit,
         table,
-        &mut flows[0..flow_words],
-        &mut rows[0..row_words],
+        lent,
     );
     true
 }
 
 // Runs the case. It answers false where the parameters aren't 40 bytes, the block table isn't whole words, or there is no
 // room for a table.
-pub fn run(
-    given: &[u8],
-    blocks: &[u8],
-    table: &mut [u32],
-    flows: &mut [u64],
-    rows: &mut [u64],
-) -> bool {
+pub fn run(given: &[u8], blocks: &[u8], table: &mut [u32], rows: &mut [u64]) -> bool {
     if given.len() != 40 {
         return false;
     }
@@ -126,5 +136,5 @@ pub fn run(
         return false;
     }
     fill(&mut table[0..block_words], blocks);
-    lend(read_parameters(given), &table[0..block_words], flows, rows)
+    lend(read_parameters(given), &table[0..block_words], rows)
 }

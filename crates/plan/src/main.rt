@@ -6,10 +6,21 @@ use libc::STDIN_FILENO;
 use load::counts::Counts;
 use loadfile::Answer;
 use rules::answer::Planned;
+use rules::record::FlowRecord;
 
-// The plan asks for the first 512 blocks.
-fn plan(file: &[u8], counts: Counts, blocks: &[u32], flows: &mut [u64], rows: &mut [u64]) {
-    match mr3::plan(counts, 512, blocks, flows, rows) {
+// Lends the plan call the flow records, of which nothing is printed. The plan asks for the first 512 blocks.
+// A function that lends records is proved by hand: it takes them by value, so that no other function lends them.
+fn lend(mut flows: [FlowRecord; 64], counts: Counts, blocks: &[u32], rows: &mut [u64]) -> Planned {
+    mr3::plan(counts, 512, blocks, &mut flows, rows)
+}
+
+fn plan(file: &[u8], counts: Counts, blocks: &[u32], rows: &mut [u64]) {
+    let flows = [FlowRecord {
+        blocks: 0,
+        turns: 0,
+        time: 0,
+    }; 64];
+    match lend(flows, counts, blocks, rows) {
         Planned::Refused(why) => listing::refused(why),
         Planned::Plan(summary) => {
             listing::counts(summary);
@@ -18,10 +29,10 @@ fn plan(file: &[u8], counts: Counts, blocks: &[u32], flows: &mut [u64], rows: &m
     }
 }
 
-fn print(file: &[u8], blocks: &mut [u32], flows: &mut [u64], rows: &mut [u64]) {
+fn print(file: &[u8], blocks: &mut [u32], rows: &mut [u64]) {
     match loadfile::read(file, blocks) {
         Answer::Refused(why) => listing::refused(why),
-        Answer::Read(counts) => plan(file, counts, blocks, flows, rows),
+        Answer::Read(counts) => plan(file, counts, blocks, rows),
     }
 }
 
@@ -29,8 +40,7 @@ fn print(file: &[u8], blocks: &mut [u32], flows: &mut [u64], rows: &mut [u64]) {
 fn main() {
     let mut file = io::large_buffer();
     let mut blocks = [0u32; 6_144];
-    let mut flows = [0u64; 192];
     let mut rows = [0u64; 7_680];
     let got = io::read_full(STDIN_FILENO, &mut file);
-    print(&file[..got], &mut blocks, &mut flows, &mut rows);
+    print(&file[..got], &mut blocks, &mut rows);
 }
