@@ -8,7 +8,7 @@ use Rattle.rules.specs.Fairness.{Fair}
 use Rattle.rules.specs.Load.{loadOf}
 use Rattle.rules.specs.Rows.{rowsIn}
 use Rattle.rules.proofs.Demand3.{call-fair}
-use Rattle.mr3.proofs.plan.Reads as plan
+use Rattle.mr3.proofs.PlanReads as plan
 
 -- what a contract gives for every call: lifetimes, arguments, result and parameters as the call returns
 module _ {K : Type 0} {Args Result Exit : K → Type 0} (post : (κs : K) → Args κs → Result κs → Exit κs → Type 0) where

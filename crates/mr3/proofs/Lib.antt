@@ -1,3 +1,5 @@
+pub mod Again
+pub mod Arrays
 pub mod Arriving
 pub mod Calling
 pub mod Deciding
@@ -5,11 +7,16 @@ pub mod Entries
 pub mod FairCall
 pub mod Modes
 pub mod Moving
+pub mod PlanCall
+pub mod PlanReads
+pub mod PlanSteps
 pub mod Reaching
+pub mod Recording
+pub mod Relend
 pub mod Running
 pub mod Runs
 pub mod Seeking
 pub mod Starting
+pub mod Steps
 pub mod Taking
-pub mod Tallying
 pub mod Unique

@@ -1,28 +1,31 @@
 -- The loop over starts: what holds when some rows have been written and counted, that one more start keeps it, and what it gives
 -- at the end.
 use Prim.Native.Nat.{ℕ, zero, suc, _+_, _-_, _*_, _≤_, _<_}
+use mathlib.Core.Bool.{Bool, true, false}
 use mathlib.Core.List.{List, [], _∷_, _++_, append-assoc, append-nil}
 use mathlib.Core.Option.{none, some}
 use mathlib.Core.Path.{_≡_, refl, sym, ap, _∙_}
-use native.Mathlib.Nat.{add-zero}
 use native.Mathlib.Numerals.{sub-one}
 use native.Mathlib.Omega.{arith}
 use lib.Dec.{ltb}
 use lib.ListN.{length, take, drop, take-append-drop}
-use lib.Seq.{drop-drop, getD-drop}
+use lib.Seq.{drop-drop}
 use Rattle.load.proofs.Parts.{drop-over, length-over, over, take-over}
 use Rattle.rules.specs.declared.answer.Summary.{Summary}
 use Rattle.rules.specs.declared.row.Row.{Row}
 use Rattle.rules.specs.Counts as counts
-use Rattle.rules.specs.Counts.{counted, Filled, recorded, records, summary}
+use Rattle.rules.specs.Counts.{counted, Filled, one, summary}
 use Rattle.rules.specs.Load.{Load}
 use Rattle.rules.specs.Plan.{origin, rowsFrom, run, Started, State, step}
 use Rattle.rules.specs.Rows.{rowsWords, rowWords, wayWords}
 use Rattle.rules.specs.Within.{Accepted, latest, RowWithin, StateWithin}
-use Rattle.rules.proofs.Blocks.{dominant-within}
 use Rattle.rules.proofs.Bounds.{origin-within, step-within}
-use Rattle.mr3.specs.Room.{RecordWithin, SummaryWithin, TableWithin}
-use Rattle.mr3.proofs.Tallying.{length-recorded, one-most, recorded-within}
+use Rattle.mr3.specs.Room.{SummaryWithin}
+
+one-most : (b : Bool) → one b ≤ 1
+unfolding one
+one-most true = omega arith
+one-most false = omega arith
 
 run-none : (L : Load) (left : ℕ) (s : State) → left ≤ 0 → run L left s ≡ []
 unfolding run
@@ -43,8 +46,8 @@ pub row-long : (r : Row) → length (rowWords r) ≡ 15
 unfolding rowWords wayWords
 row-long r = refl
 
-module _ (L : Load) (all : List Row) (flows₀ rows₀ : List ℕ) (listed : ℕ) where
-  pub record Running (s : State) (sum : Summary) (flows rows : List ℕ) (at left : ℕ) : Type 0 where
+module _ (L : Load) (all : List Row) (rows₀ : List ℕ) (listed : ℕ) where
+  pub record Running (s : State) (sum : Summary) (rows : List ℕ) (at left : ℕ) : Type 0 where
     pub starts : ℕ
     pub place : starts + left ≡ listed
     pub at-place : at ≡ 15 * starts
@@ -53,18 +56,15 @@ module _ (L : Load) (all : List Row) (flows₀ rows₀ : List ℕ) (listed : ℕ
     pub kept : drop at rows ≡ drop at rows₀
     pub words : rowsWords all ≡ take at rows ++ rowsWords (run L left s)
     pub many : 15 * length all ≡ at + 15 * length (run L left s)
-    pub wide : length flows ≡ length flows₀
-    pub table : TableWithin (L .counts .flows) starts flows
-    pub noted : records (L .table) 0 flows₀ all ≡ records (L .table) (sum .turns) flows (run L left s)
     pub counts : summary (L .counts .stages) counts.none all ≡ summary (L .counts .stages) sum (run L left s)
     pub few-blocks : sum .blocks ≤ starts
     pub few-held : sum .held ≤ starts
     pub few-ticks : sum .ticks ≤ 100_000_000_000 * starts
 
   -- before the first start
-  pub running-first : (s : State) → all ≡ run L listed s → StateWithin L 0 s → TableWithin (L .counts .flows) 0 flows₀ → Running s counts.none flows₀ rows₀ 0 listed
+  pub running-first : (s : State) → all ≡ run L listed s → StateWithin L 0 s → Running s counts.none rows₀ 0 listed
   unfolding counts.none
-  running-first s e within table = record {
+  running-first s e within = record {
     starts = 0;
     place = omega arith;
     at-place = omega arith;
@@ -73,56 +73,42 @@ module _ (L : Load) (all : List Row) (flows₀ rows₀ : List ℕ) (listed : ℕ
     kept = refl;
     words = ap rowsWords e;
     many = omega (arith, ap length e);
-    wide = refl;
-    table = table;
-    noted = ap (records (L .table) 0 flows₀) e;
     counts = ap (summary (L .counts .stages) counts.none) e;
     few-blocks = omega arith;
     few-held = omega arith;
     few-ticks = omega arith;
   }
 
-  module _ (s : State) (sum : Summary) (flows rows : List ℕ) (at left : ℕ) (r : Running s sum flows rows at left) where
+  module _ (s : State) (sum : Summary) (rows : List ℕ) (at left : ℕ) (r : Running s sum rows at left) where
     -- nothing is left to start
-    ends : run L left s ≡ [] → Filled L all flows₀ rows₀ sum flows rows
-    unfolding summary records rowsWords
+    ends : run L left s ≡ [] → Filled L all rows₀ sum rows
+    unfolding summary rowsWords
     ends e =
         let words : rowsWords all ≡ take at rows = r .words ∙ ap (λ (rs : List Row). take at rows ++ rowsWords rs) e ∙ append-nil (take at rows) in
         let none-left : length (run L left s) ≡ 0 = ap length e in
         let many : 15 * length all ≡ at = omega (arith, r .many) in
         record {
           counts = sym (r .counts ∙ ap (summary (L .counts .stages) sum) e);
-          noted = sym (r .noted ∙ ap (records (L .table) (sum .turns) flows) e);
           written = rw (words, many, ← (r .kept)) (sym (take-append-drop at rows));
         }
 
-    pub running-done : left ≤ 0 → Filled L all flows₀ rows₀ sum flows rows
+    pub running-done : left ≤ 0 → Filled L all rows₀ sum rows
     running-done h = ends (run-none L left s h)
 
-    pub running-stops : step L s ≡ none → Filled L all flows₀ rows₀ sum flows rows
+    pub running-stops : step L s ≡ none → Filled L all rows₀ sum rows
     running-stops e = ends (run-ends L left s e)
 
     -- a row that is written has room, in the tables and in the counts
     pub row-room : 0 < left → 15 * listed ≤ length rows₀ → at + 15 ≤ length rows
     row-room h room = omega (arith, r .place, r .at-place, r .long)
 
-    module _ (ok : Accepted L) (few : listed ≤ 1024) (room : 15 * listed ≤ length rows₀) (space : 3 * L .counts .flows ≤ length flows₀)
+    module _ (ok : Accepted L) (few : listed ≤ 1024) (room : 15 * listed ≤ length rows₀)
         (h : 0 < left) (q : Started) (starts : step L s ≡ some q) where
       bounds : StateWithin L (r .starts + 1) (q .then) × RowWithin L (r .starts) (q .row)
       bounds = step-within L ok (r .starts) s q (r .within) starts
 
       pub row-within : RowWithin L (r .starts) (q .row)
       row-within = bounds .1
-
-      pub record-within : RecordWithin (drop (3 * q .row .flow) flows)
-      record-within =
-          let each = r .table .each (q .row .flow) (bounds .1 .flow) in
-          let f = 3 * q .row .flow in
-          record {
-            blocks = rw (getD-drop, add-zero) (omega (arith, each .0, r .place));
-            turns = rw getD-drop (omega (arith, each .1, r .place));
-            time = rw getD-drop (omega (arith, each .2, r .place));
-          }
 
       pub summary-within : SummaryWithin sum × (q .row .hold < 1_000_000_000_000_000_000)
       unfolding latest
@@ -135,8 +121,8 @@ module _ (L : Load) (all : List Row) (flows₀ rows₀ : List ℕ) (listed : ℕ
         omega (arith, bounds .1 .hold, r .place),
       )
 
-      pub running-step : Running (q .then) (counted (L .counts .stages) sum (q .row)) (recorded (L .table) (sum .turns) flows (q .row)) (over rows at (rowWords (q .row))) (at + 15) (left - 1)
-      unfolding summary records rowsWords counted rowWords wayWords latest
+      pub running-step : Running (q .then) (counted (L .counts .stages) sum (q .row)) (over rows at (rowWords (q .row))) (at + 15) (left - 1)
+      unfolding summary rowsWords counted rowWords wayWords latest
       running-step =
           let next = run-next L left s q h starts in
           let fits : at + 15 ≤ length rows = row-room h room in
@@ -154,11 +140,6 @@ module _ (L : Load) (all : List Row) (flows₀ rows₀ : List ℕ) (listed : ℕ
                 ∙ ap (λ (rs : List Row). take at rows ++ rowsWords rs) next
                 ∙ sym (append-assoc (take at rows) (rowWords (q .row)) _));
             many = omega (arith, r .many);
-            wide = length-recorded (L .table) (sum .turns) flows (q .row) ∙ r .wide;
-            table =
-                recorded-within (L .table) (sum .turns) flows (q .row) (omega (arith, r .wide, bounds .1 .flow)) (L .counts .flows) (r .starts) (bounds .1 .flow)
-                (omega (arith, dominant-within (ok .each (q .row .block) (bounds .1 .block)))) (r .table);
-            noted = r .noted ∙ ap (records (L .table) (sum .turns) flows) next;
             counts = r .counts ∙ ap (summary (L .counts .stages) sum) next;
             few-blocks = omega (arith, r .few-blocks);
             few-held = omega (arith, r .few-held, one-most (ltb 0 (q .row .hold)));
@@ -170,6 +151,6 @@ module _ (L : Load) (s : State) (e : s ≡ origin L) where
   pub origin-reached : Accepted L → StateWithin L 0 s
   origin-reached ok = rw e (origin-within L ok)
 
-  pub filled-first : (n : ℕ) (flows rows : List ℕ) (sum : Summary) (flowsThen rowsThen : List ℕ)
-      → Filled L (run L n s) flows rows sum flowsThen rowsThen → Filled L (run L n (origin L)) flows rows sum flowsThen rowsThen
-  filled-first n flows rows sum flowsThen rowsThen filled = rw (← e) filled
+  pub filled-first : (n : ℕ) (rows : List ℕ) (sum : Summary) (rowsThen : List ℕ)
+      → Filled L (run L n s) rows sum rowsThen → Filled L (run L n (origin L)) rows sum rowsThen
+  filled-first n rows sum rowsThen filled = rw (← e) filled

@@ -1,8 +1,8 @@
--- The plan call determines its answer and each word of both lent tables.
+-- The plan call determines its answer, each flow record and each word of the row table.
 use mathlib.Core.Path.{sym, _∙_}
 use denote.Ref.{now}
 use Rattle.load.proofs.Once.{OneAnswer, OneExit}
-use Rattle.mr3.proofs.plan.Reads as plan
+use Rattle.mr3.proofs.PlanReads as plan
 
 pub plan-once : OneAnswer plan.Post
 plan-once κs a r r′ s s′ p q = p .answers ∙ sym (q .answers)

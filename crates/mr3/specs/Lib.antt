@@ -1,2 +1,3 @@
+pub mod Changes
 pub mod Room
 pub mod Storage

@@ -1,8 +1,6 @@
 -- Bounds of the code's numbers, by which its sums fit 64 bits and its indices their arrays: where a step begins, and room for one
 -- block more.
-use Prim.Native.Nat.{ℕ, _+_, _*_, _≤_, _<_}
-use mathlib.Core.List.{List}
-use lib.ListN.{getD}
+use Prim.Native.Nat.{ℕ, _+_, _≤_, _<_}
 use Rattle.load.specs.declared.counts.Counts.{Counts}
 use Rattle.rules.specs.declared.answer.Summary.{Summary}
 use Rattle.rules.specs.declared.mode.Mode.{Mode}
@@ -38,17 +36,8 @@ pub record Steps (L : Load) (s : State) : Type 0 where
   pub few : starts ≤ 1024
   pub within : StateWithin L starts s
 
--- room for one block more in a flow's record and in the summary
-pub record RecordWithin (ws : List ℕ) : Type 0 where
-  pub blocks : getD ws 0 0 < 1_000_000
-  pub turns : getD ws 1 0 < 1_000_000
-  pub time : getD ws 2 0 < 1_000_000_000_000_000_000
-
+-- room for one block more in the summary
 pub record SummaryWithin (s : Summary) : Type 0 where
   pub blocks : s .blocks < 1_000_000
   pub held : s .held < 1_000_000
   pub ticks : s .ticks < 1_000_000_000_000_000_000
-
--- a flow table that so many rows were counted in
-pub record TableWithin (flows k : ℕ) (ws : List ℕ) : Type 0 where
-  pub each : (f : ℕ) → f < flows → (getD ws (3 * f) 0 ≤ k) × (getD ws (3 * f + 1) 0 ≤ k) × (getD ws (3 * f + 2) 0 ≤ 4_294_967_295 * k)

@@ -21,16 +21,16 @@ fn short(
     counts: Counts,
     limit: u64,
     block_words: usize,
-    flow_words: usize,
+    flow_records: usize,
     row_words: usize,
 ) -> bool
     requires { ⌜ (counts .flows ≤ 64) × (counts .blocks ≤ 1024) ⌝ }
-    ensures { λ r. ⌜ r ≡ Calls·short counts limit «block_words» «flow_words» «row_words» ⌝ }
+    ensures { λ r. ⌜ r ≡ Calls·short counts limit «block_words» «flow_records» «row_words» ⌝ }
 {
     if block_words < 6 * counts.blocks {
         return true;
     }
-    if flow_words < 3 * counts.flows {
+    if flow_records < counts.flows {
         return true;
     }
     row_words < 15 * listed(limit, counts.blocks)
@@ -61,16 +61,16 @@ pub fn test(
     counts: Counts,
     limit: u64,
     blocks: &[u32],
-    flow_words: usize,
+    flow_records: usize,
     row_words: usize,
 ) -> Verdict
-    ensures { λ r. ⌜ r ≡ planVerdict counts limit (now (blocks .entry)) «flow_words» «row_words» ⌝ }
+    ensures { λ r. ⌜ r ≡ planVerdict counts limit (now (blocks .entry)) «flow_records» «row_words» ⌝ }
 {
     let verdict = load::counts::test(counts);
     let Verdict::Accepted = verdict else {
         return verdict;
     };
-    if short(counts, limit, blocks.len(), flow_words, row_words) {
+    if short(counts, limit, blocks.len(), flow_records, row_words) {
         return Verdict::Refused(Refusal::ShortTable);
     }
     test_blocks(counts, blocks)

@@ -3,9 +3,11 @@ ghost use Rattle.rules.specs.Calls.{Plans};
 
 mod accept;
 mod account;
+mod answer;
 mod arrivals;
 mod list;
 mod queue;
+mod record;
 mod row;
 mod run;
 mod settle;
@@ -15,29 +17,20 @@ mod step;
 mod tally;
 
 use load::counts::Counts;
-use load::refusal::Verdict;
 use rules::answer::Planned;
+use rules::record::FlowRecord;
 
 // The first `limit` blocks of the plan, or all of them: their rows, the flows' records, and the counts.
 pub fn plan(
     counts: Counts,
     limit: u64,
     blocks: &[u32],
-    flows: &mut [u64],
+    flows: &mut [FlowRecord],
     rows: &mut [u64],
 ) -> Planned
     ensures { λ r. ⌜ Plans counts limit (now (blocks .entry)) (now (flows .entry)) (now (rows .entry)) r (now (flows .exit)) (now (rows .exit)) ⌝ }
 {
-    if let Verdict::Refused(refusal) = accept::test(
-        counts,
-        limit,
-        blocks,
-        flows.len(),
-        rows.len(),
-    ) {
-        return Planned::Refused(refusal);
-    }
-    tally::clear(flows, counts.flows);
-    let listed = accept::listed(limit, counts.blocks);
-    Planned::Plan(run::rows(counts, listed, blocks, flows, rows))
+    let answered = answer::answer(counts, limit, blocks, flows.len(), rows);
+    record::fill(flows, blocks, rows, answered.rows, answered.changes);
+    answered.answer
 }

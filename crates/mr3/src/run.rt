@@ -7,7 +7,6 @@ ghost use Rattle.rules.specs.Counts.{Filled};
 ghost use Rattle.rules.specs.Load.{loadOf};
 ghost use Rattle.rules.specs.Plan.{origin as Plan·origin, run as Plan·run};
 ghost use Rattle.rules.specs.Within.{Accepted, StateWithin};
-ghost use Rattle.mr3.specs.Room.{TableWithin};
 ghost use Rattle.mr3.specs.Storage.{atFirst, stateOf};
 use crate::arrivals;
 use crate::list::Storage;
@@ -79,14 +78,12 @@ fn run(
     list: &mut Storage,
     from: &mut [usize; 64],
     gate: &mut [u64; 64],
-    flows: &mut [u64],
     rows: &mut [u64],
 ) -> Summary
     requires { ⌜ Accepted (loadOf counts (now blocks)) ⌝ }
     requires { ⌜ StateWithin (loadOf counts (now blocks)) 0 (stateOf first (now list) (now from) (now gate)) ⌝ }
-    requires { ⌜ (listed ≤ 1024) × (15 * listed ≤ length (now rows)) × (3 * counts .flows ≤ length (now flows)) ⌝ }
-    requires { ⌜ TableWithin (counts .flows) 0 (now flows) ⌝ }
-    ensures { λ r. ⌜ Filled (loadOf counts (now (blocks .entry))) (Plan·run (loadOf counts (now (blocks .entry))) listed (stateOf first (now (list .entry)) (now (from .entry)) (now (gate .entry)))) (now (flows .entry)) (now (rows .entry)) r (now (flows .exit)) (now (rows .exit)) ⌝ }
+    requires { ⌜ (listed ≤ 1024) × (15 * listed ≤ length (now rows)) ⌝ }
+    ensures { λ r. ⌜ Filled (loadOf counts (now (blocks .entry))) (Plan·run (loadOf counts (now (blocks .entry))) listed (stateOf first (now (list .entry)) (now (from .entry)) (now (gate .entry)))) (now (rows .entry)) r (now (rows .exit)) ⌝ }
 {
     let mut planner = first;
     let mut summary = Summary {
@@ -104,7 +101,6 @@ fn run(
             return summary;
         };
         row::write(&mut rows[at..], row);
-        tally::note(blocks, flows, summary.turns, row);
         summary = tally::counted(summary, counts.stages, row);
         planner = then;
         at += 15;
@@ -114,17 +110,10 @@ fn run(
 }
 
 // The first blocks that start, of an accepted load.
-pub fn rows(
-    counts: Counts,
-    listed: usize,
-    blocks: &[u32],
-    flows: &mut [u64],
-    rows: &mut [u64],
-) -> Summary
+pub fn rows(counts: Counts, listed: usize, blocks: &[u32], rows: &mut [u64]) -> Summary
     requires { ⌜ Accepted (loadOf counts (now blocks)) ⌝ }
-    requires { ⌜ (listed ≤ 1024) × (15 * listed ≤ length (now rows)) × (3 * counts .flows ≤ length (now flows)) ⌝ }
-    requires { ⌜ TableWithin (counts .flows) 0 (now flows) ⌝ }
-    ensures { λ r. ⌜ Filled (loadOf counts (now (blocks .entry))) (Plan·run (loadOf counts (now (blocks .entry))) listed (Plan·origin (loadOf counts (now (blocks .entry))))) (now (flows .entry)) (now (rows .entry)) r (now (flows .exit)) (now (rows .exit)) ⌝ }
+    requires { ⌜ (listed ≤ 1024) × (15 * listed ≤ length (now rows)) ⌝ }
+    ensures { λ r. ⌜ Filled (loadOf counts (now (blocks .entry))) (Plan·run (loadOf counts (now (blocks .entry))) listed (Plan·origin (loadOf counts (now (blocks .entry))))) (now (rows .entry)) r (now (rows .exit)) ⌝ }
 {
     let mut list = [0u64; 2048];
     let mut from = [0usize; 64];
@@ -138,7 +127,6 @@ pub fn rows(
         &mut list,
         &mut from,
         &mut gate,
-        flows,
         rows,
     )
 }

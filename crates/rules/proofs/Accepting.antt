@@ -47,19 +47,19 @@ unfolding andThen
 blocks-next c above table at left b h same e = rw (blocks-step c above (drop at table) left h, ← same, e, drop-drop)
 
 -- what a call that passes test 7 is lent
-pub record Lent (c : Counts) (n blockWords flowWords rowWords : ℕ) : Type 0 where
+pub record Lent (c : Counts) (n blockWords flowRecords rowWords : ℕ) : Type 0 where
   pub blocks : 6 * c .blocks ≤ blockWords
-  pub flows : 3 * c .flows ≤ flowWords
+  pub flows : c .flows ≤ flowRecords
   pub rows : 15 * min n (c .blocks) ≤ rowWords
 
-pub lent : (c : Counts) (n blockWords flowWords rowWords : ℕ) → short c n blockWords flowWords rowWords ≡ false → Lent c n blockWords flowWords rowWords
+pub lent : (c : Counts) (n blockWords flowRecords rowWords : ℕ) → short c n blockWords flowRecords rowWords ≡ false → Lent c n blockWords flowRecords rowWords
 unfolding short
-lent c n blockWords flowWords rowWords e =
+lent c n blockWords flowRecords rowWords e =
     let rows = or-false _ _ e in
     let tables = or-false _ _ (rows .0) in
     record {
       blocks = ltb-false blockWords (6 * c .blocks) (tables .0);
-      flows = ltb-false flowWords (3 * c .flows) (tables .1);
+      flows = ltb-false flowRecords (c .flows) (tables .1);
       rows = ltb-false rowWords (15 * min n (c .blocks)) (rows .1);
     }
 
@@ -86,18 +86,18 @@ module _ (c : Counts) (table : List ℕ) (e : blocksVerdict c 0 (c .blocks) tabl
   unfolding blocksVerdict blockAt
   each-accepted i h = block-within-limits c _ _ (and-then-accepted _ _ (rest-accepted i (suc (c .blocks - i - 1)) (omega arith)) .0)
 
-module _ (c : Counts) (n : ℕ) (table : List ℕ) (flowWords rowWords : ℕ) (e : planVerdict c n table flowWords rowWords ≡ verdict.Accepted) where
-  tests : (countsVerdict c ≡ verdict.Accepted) × (short c n (length table) flowWords rowWords ≡ false) × (blocksVerdict c 0 (c .blocks) table ≡ verdict.Accepted)
+module _ (c : Counts) (n : ℕ) (table : List ℕ) (flowRecords rowWords : ℕ) (e : planVerdict c n table flowRecords rowWords ≡ verdict.Accepted) where
+  tests : (countsVerdict c ≡ verdict.Accepted) × (short c n (length table) flowRecords rowWords ≡ false) × (blocksVerdict c 0 (c .blocks) table ≡ verdict.Accepted)
   unfolding planVerdict
   tests =
       let counts = and-then-accepted _ _ e in
       let tables = given-accepted _ _ _ (counts .1) in
       (counts .0, tables .0, tables .1)
 
-  pub accepted : Accepted (loadOf c table) × (3 * c .flows ≤ flowWords) × (15 * min n (c .blocks) ≤ rowWords)
+  pub accepted : Accepted (loadOf c table) × (c .flows ≤ flowRecords) × (15 * min n (c .blocks) ≤ rowWords)
   accepted =
       let counts = counts-within c (tests .0) in
-      let room = lent c n (length table) flowWords rowWords (tests .1) in (
+      let room = lent c n (length table) flowRecords rowWords (tests .1) in (
         record {
           stages = (counts .some-stage, counts .stages-within);
           flows = counts .flows-within;

@@ -14,6 +14,7 @@ use Rattle.load.specs.Dominant.{dominantTime}
 use Rattle.load.proofs.Accepted.{number-above}
 use Rattle.load.proofs.Cases.{cases}
 use Rattle.rules.specs.declared.answer.Planned.{Planned}
+use Rattle.rules.specs.declared.record.FlowRecord.{FlowRecord}
 use Rattle.rules.specs.declared.row.Row.{Row}
 use Rattle.rules.specs.Calls.{answerNumber, answerOf, Plans, planVerdict, rowsAfter}
 use Rattle.rules.specs.Fairness.{Fair, largestOf, largestTime}
@@ -34,16 +35,16 @@ largest-bound table (suc k) i h =
     (λ e. rw (eqb-true i k e) (omega arith))
     (λ e. omega (arith, largest-bound table k i (omega (arith, eqb-false i k e))))
 
-module _ (c : Counts) (n : ℕ) (table : List ℕ) (flowWords rowWords : ℕ) (e : planVerdict c n table flowWords rowWords ≡ verdict.Accepted) where
+module _ (c : Counts) (n : ℕ) (table : List ℕ) (flowRecords rowWords : ℕ) (e : planVerdict c n table flowRecords rowWords ≡ verdict.Accepted) where
   abbrev L : Load
   L = loadOf c table
 
   sound : Sound L (largestTime L)
   unfolding largestTime
   sound = record {
-    accepted = accepted c n table flowWords rowWords e .0;
-    sorted = sorted c n table flowWords rowWords e;
-    stage = stage-there c n table flowWords rowWords e;
+    accepted = accepted c n table flowRecords rowWords e .0;
+    sorted = sorted c n table flowRecords rowWords e;
+    stage = stage-there c n table flowRecords rowWords e;
     bound = largest-bound table (c .blocks);
   }
 
@@ -56,7 +57,7 @@ module _ (c : Counts) (n : ℕ) (table : List ℕ) (flowWords rowWords : ℕ) (e
   }
 
 -- rows written and read again
-rows-back : (rs : List Row) (k : ℕ) (more : List ℕ) → length rs ≡ k → rowsIn k (rowsWords rs ++ more) ≡ rs
+pub rows-back : (rs : List Row) (k : ℕ) (more : List ℕ) → length rs ≡ k → rowsIn k (rowsWords rs ++ more) ≡ rs
 unfolding rowAt rowsIn rowsWords rowWords wayWords
 rows-back [] zero more h = refl
 rows-back [] (suc k) more h = absurd (omega arith)
@@ -64,12 +65,12 @@ rows-back (r ∷ rs) zero more h = absurd (omega arith)
 rows-back (r ∷ rs) (suc k) more h = ap (λ (l : List Row). r ∷ l) (rows-back rs k more (omega arith))
 
 -- the words that the plan call leaves
-pub call-fair : (c : Counts) (n : ℕ) (table flows rows : List ℕ) (answer : Planned) (flowsThen rowsThen : List ℕ)
+pub call-fair : (c : Counts) (n : ℕ) (table : List ℕ) (flows : List FlowRecord) (rows : List ℕ) (answer : Planned) (flowsThen : List FlowRecord) (rowsThen : List ℕ)
     → Plans c n table flows rows answer flowsThen rowsThen → answerNumber answer ≡ 0 → c .blocks ≤ n → Fair (loadOf c table) (rowsIn (c .blocks) rowsThen)
 unfolding answerOf rowsAfter
 call-fair c n table flows rows answer flowsThen rowsThen p is-0 all =
     go (planVerdict c n table (length flows) (length rows)) refl (p .answers) (p .rows-left) where
-      go : (v : Verdict) → planVerdict c n table (length flows) (length rows) ≡ v → answer ≡ answerOf c n table flows rows v → rowsThen ≡ rowsAfter c n table flows rows v
+      go : (v : Verdict) → planVerdict c n table (length flows) (length rows) ≡ v → answer ≡ answerOf c n table v → rowsThen ≡ rowsAfter c n table rows v
           → Fair (loadOf c table) (rowsIn (c .blocks) rowsThen)
       go (verdict.Refused r) is a t = absurd (omega (arith, number-above r, rw a at is-0))
       go verdict.Accepted is a t =

@@ -67,7 +67,7 @@ unfoldable pub rows-E3 : List Row
 rows-E3 = plan (table.loadOf table.E3) 3
 
 pub record Computed : Type 0 where
-  pub accepted : planVerdict (unlike .counts) 14 (unlike .table) 6 210 ≡ verdict.Accepted
+  pub accepted : planVerdict (unlike .counts) 14 (unlike .table) 2 210 ≡ verdict.Accepted
   pub wait-0 : waitsOver (unlike .table) 0 22 75 rows ≡ true
   pub wait-1 : waitsOver (unlike .table) 1 22 75 rows ≡ true
   pub served-0 : service 0 22 97 rows ≡ 2

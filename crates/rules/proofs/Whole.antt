@@ -221,12 +221,12 @@ unfolding counted summary
 summary-blocks stages s [] = omega arith
 summary-blocks stages s (r ∷ rs) = omega (arith, summary-blocks stages (counted stages s r) rs)
 
-module _ (c : Counts) (n : ℕ) (table : List ℕ) (flowWords rowWords : ℕ) (e : planVerdict c n table flowWords rowWords ≡ verdict.Accepted) where
+module _ (c : Counts) (n : ℕ) (table : List ℕ) (flowRecords rowWords : ℕ) (e : planVerdict c n table flowRecords rowWords ≡ verdict.Accepted) where
   pub plan-length : length (plan (loadOf c table) n) ≡ min n (c .blocks)
   unfolding plan
   plan-length =
       let L = loadOf c table in
-      run-whole L (accepted c n table flowWords rowWords e .0) (min n (c .blocks)) 0 (origin L) (origin-whole L) (omega arith)
+      run-whole L (accepted c n table flowRecords rowWords e .0) (min n (c .blocks)) 0 (origin L) (origin-whole L) (omega arith)
 
   -- the answer counts as many
   pub plan-blocks : summary (c .stages) none (plan (loadOf c table) n) .blocks ≡ min n (c .blocks)

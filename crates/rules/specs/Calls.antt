@@ -15,7 +15,8 @@ use Rattle.load.specs.Tests.{blockVerdict, countsVerdict}
 use Rattle.rules.specs.declared.answer.Planned.{Planned}
 use Rattle.rules.specs.declared.answer.Planned.the-variants.{Refused, Plan}
 use Rattle.rules.specs.declared.answer.Summary.{Summary}
-use Rattle.rules.specs.Counts.{none, records, summary}
+use Rattle.rules.specs.declared.record.FlowRecord.{FlowRecord}
+use Rattle.rules.specs.Counts.{none, records, summary, unlisted}
 use Rattle.rules.specs.Load.{loadOf}
 use Rattle.rules.specs.Plan.{plan}
 use Rattle.rules.specs.Rows.{rowsWords}
@@ -31,17 +32,16 @@ blocksVerdict c above zero table = verdict.Accepted
 blocksVerdict c above (suc k) table =
     andThen (blockVerdict c above (blockOf table)) (blocksVerdict c (blockOf table .arrival) k (drop 6 table))
 
--- The plan call needs 6 words for each block, one flow record (3 words) for each flow, and 15 row words for each block it will
--- list.
+-- The plan call needs 6 words for each block, one flow record for each flow, and 15 row words for each block it will list.
 unfoldable pub short : Counts → ℕ → ℕ → ℕ → ℕ → Bool
-short c n blockWords flowWords rowWords =
-    ltb blockWords (6 * c .blocks) || ltb flowWords (3 * c .flows) || ltb rowWords (15 * min n (c .blocks))
+short c n blockWords flowRecords rowWords =
+    ltb blockWords (6 * c .blocks) || ltb flowRecords (c .flows) || ltb rowWords (15 * min n (c .blocks))
 
 -- It tests 3, 4, 7 and then, block by block, 8, 9, 10, 11.
 unfoldable pub planVerdict : Counts → ℕ → List ℕ → ℕ → ℕ → Verdict
-planVerdict c n table flowWords rowWords =
+planVerdict c n table flowRecords rowWords =
     andThen (countsVerdict c)
-    (given (short c n (length table) flowWords rowWords) ShortTable
+    (given (short c n (length table) flowRecords rowWords) ShortTable
     (blocksVerdict c 0 (c .blocks) table))
 
 -- document 01's number and values for each answer
@@ -53,22 +53,22 @@ abbrev pub answerSummary : Planned → Summary
 answerSummary (Refused r) = none
 answerSummary (Plan s) = s
 
-module _ (c : Counts) (n : ℕ) (table flows rows : List ℕ) where
+module _ (c : Counts) (n : ℕ) (table : List ℕ) where
   unfoldable pub answerOf : Verdict → Planned
   answerOf (verdict.Refused r) = Refused r
   answerOf verdict.Accepted = Plan (summary (c .stages) none (plan (loadOf c table) n))
 
   -- A refusal leaves every table as before; room beyond need is left as found.
-  unfoldable pub flowsAfter : Verdict → List ℕ
-  flowsAfter (verdict.Refused r) = flows
-  flowsAfter verdict.Accepted = records table 0 (replicate (3 * c .flows) 0 ++ drop (3 * c .flows) flows) (plan (loadOf c table) n)
+  unfoldable pub flowsAfter : List FlowRecord → Verdict → List FlowRecord
+  flowsAfter flows (verdict.Refused r) = flows
+  flowsAfter flows verdict.Accepted = records table 0 (replicate (c .flows) unlisted ++ drop (c .flows) flows) (plan (loadOf c table) n)
 
-  unfoldable pub rowsAfter : Verdict → List ℕ
-  rowsAfter (verdict.Refused r) = rows
-  rowsAfter verdict.Accepted = rowsWords (plan (loadOf c table) n) ++ drop (15 * length (plan (loadOf c table) n)) rows
+  unfoldable pub rowsAfter : List ℕ → Verdict → List ℕ
+  rowsAfter rows (verdict.Refused r) = rows
+  rowsAfter rows verdict.Accepted = rowsWords (plan (loadOf c table) n) ++ drop (15 * length (plan (loadOf c table) n)) rows
 
 -- the answer and what the two lent tables hold after the call
-pub record Plans (c : Counts) (n : ℕ) (table flows rows : List ℕ) (answer : Planned) (flowsThen rowsThen : List ℕ) : Type 0 where
-  pub answers : answer ≡ answerOf c n table flows rows (planVerdict c n table (length flows) (length rows))
-  pub flows-left : flowsThen ≡ flowsAfter c n table flows rows (planVerdict c n table (length flows) (length rows))
-  pub rows-left : rowsThen ≡ rowsAfter c n table flows rows (planVerdict c n table (length flows) (length rows))
+pub record Plans (c : Counts) (n : ℕ) (table : List ℕ) (flows : List FlowRecord) (rows : List ℕ) (answer : Planned) (flowsThen : List FlowRecord) (rowsThen : List ℕ) : Type 0 where
+  pub answers : answer ≡ answerOf c n table (planVerdict c n table (length flows) (length rows))
+  pub flows-left : flowsThen ≡ flowsAfter c n table flows (planVerdict c n table (length flows) (length rows))
+  pub rows-left : rowsThen ≡ rowsAfter c n table rows (planVerdict c n table (length flows) (length rows))

@@ -4,9 +4,10 @@ use mathlib.Core.Path.{_≡_}
 use mathlib.Core.Bool.{Bool, true, false}
 use mathlib.Core.List.{List, [], _∷_, _++_}
 use lib.Dec.{ltb}
-use lib.ListN.{length, getD, set, take, drop}
+use lib.ListN.{length, getD, set, drop}
 use Rattle.load.specs.Dominant.{dominantTime}
 use Rattle.rules.specs.declared.answer.Summary.{Summary}
+use Rattle.rules.specs.declared.record.FlowRecord.{FlowRecord}
 use Rattle.rules.specs.declared.row.Row.{Row}
 use Rattle.rules.specs.Load.{Load, blockAt}
 use Rattle.rules.specs.Rows.{rowsWords}
@@ -36,21 +37,24 @@ unfoldable pub summary : ℕ → Summary → List Row → Summary
 summary stages s [] = s
 summary stages s (r ∷ rs) = summary stages (counted stages s r) rs
 
--- A flow's record: blocks listed, turns begun, sum of their dominant times. A row adds one block to its flow's record, one turn
--- where it is the first of its turn (the row before it, if any, is of the turn `before`), and its block's dominant time.
-unfoldable pub added : ℕ → ℕ → List ℕ → List ℕ
-added turns time ws = set (set (set ws 0 (getD ws 0 0 + 1)) 1 (getD ws 1 0 + turns)) 2 (getD ws 2 0 + time)
+-- The flow table, one record for each flow: blocks listed, turns begun, sum of their dominant times. A row adds one block to its
+-- flow's record, one turn where it is the first of its turn (the row before it, if any, is of the turn `before`), and its block's
+-- dominant time.
+unfoldable pub unlisted : FlowRecord
+unlisted = record { blocks = 0; turns = 0; time = 0 }
 
-unfoldable pub recorded : List ℕ → ℕ → List ℕ → Row → List ℕ
-recorded table before ws r =
-    take (3 * r .flow) ws ++ added (one (ltb before (r .turn))) (dominantTime (blockAt table (r .block))) (drop (3 * r .flow) ws)
+unfoldable pub added : ℕ → ℕ → FlowRecord → FlowRecord
+added turns time f = record { blocks = f .blocks + 1; turns = f .turns + turns; time = f .time + time }
 
-unfoldable pub records : List ℕ → ℕ → List ℕ → List Row → List ℕ
-records table before ws [] = ws
-records table before ws (r ∷ rs) = records table (r .turn) (recorded table before ws r) rs
+unfoldable pub recorded : List ℕ → ℕ → List FlowRecord → Row → List FlowRecord
+recorded table before fs r =
+    set fs (r .flow) (added (one (ltb before (r .turn))) (dominantTime (blockAt table (r .block))) (getD fs (r .flow) unlisted))
 
--- Rows, counted and written: the summary, the flow table from what it held, and the row table, whose room beyond need is left.
-pub record Filled (L : Load) (rs : List Row) (flows rows : List ℕ) (s : Summary) (flowsThen rowsThen : List ℕ) : Type 0 where
+unfoldable pub records : List ℕ → ℕ → List FlowRecord → List Row → List FlowRecord
+records table before fs [] = fs
+records table before fs (r ∷ rs) = records table (r .turn) (recorded table before fs r) rs
+
+-- Rows, counted and written: the summary, and the row table, whose room beyond need is left.
+pub record Filled (L : Load) (rs : List Row) (rows : List ℕ) (s : Summary) (rowsThen : List ℕ) : Type 0 where
   pub counts : s ≡ summary (L .counts .stages) none rs
-  pub noted : flowsThen ≡ records (L .table) 0 flows rs
   pub written : rowsThen ≡ rowsWords rs ++ drop (15 * length rs) rows

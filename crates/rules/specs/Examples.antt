@@ -6,7 +6,8 @@ use lib.Dec.{eqb}
 use lib.ListN.{length, replicate}
 use Rattle.rules.specs.declared.answer.Summary.{Summary}
 use Rattle.rules.specs.declared.row.Row.{Row}
-use Rattle.rules.specs.Counts.{none, records, summary}
+use Rattle.rules.specs.declared.record.FlowRecord.{FlowRecord}
+use Rattle.rules.specs.Counts.{none, records, summary, unlisted}
 use Rattle.rules.specs.Load.{Load}
 use Rattle.rules.specs.Plan.{plan}
 use Rattle.rules.specs.Rows.{rowsWords}
@@ -36,12 +37,16 @@ loadOf e = record { counts = record { stages = e .stages; flows = e .flows; bloc
 unfoldable pub countWords : Summary → List ℕ
 countWords s = s .blocks ∷ s .turns ∷ s .rounds ∷ s .held ∷ s .ticks ∷ s .end ∷ []
 
+unfoldable pub recordWords : List FlowRecord → List ℕ
+recordWords [] = []
+recordWords (f ∷ fs) = f .blocks ∷ f .turns ∷ f .time ∷ recordWords fs
+
 -- rows, flow records and counts are as the table has them
 unfoldable pub holds : Example → Bool
 holds e =
     let rs : List Row = plan (loadOf e) (e .limit) in
     same (rowsWords rs) (joined (e .rows))
-    && same (records (joined (e .blocks)) 0 (replicate (length (joined (e .records))) 0) rs) (joined (e .records))
+    && same (recordWords (records (joined (e .blocks)) 0 (replicate (e .flows) unlisted) rs)) (joined (e .records))
     && same (countWords (summary (e .stages) none rs)) (e .counts)
 
 unfoldable pub allHold : List Example → Bool

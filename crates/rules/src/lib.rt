@@ -3,6 +3,7 @@
 pub mod answer;
 pub mod entry;
 pub mod mode;
+pub mod record;
 pub mod round;
 pub mod row;
 pub mod stages;

@@ -12,9 +12,6 @@ returns : tie.Need-returns
 unfolding short
 returns c = search by-tests
 
-mul-if2 : tie.Need-mul-if2
-mul-if2 c = search needs
-
 returns-2 : tie.Need-returns-2
 unfolding short
 returns-2 c = search by-tests
@@ -31,4 +28,4 @@ returns-3 c = search (by-tests, ← (c .listed .ensures))
 
 pub short-spec : {M : Type 1} → statement M
 short-spec =
-    tie.close (tie.spec mul-if1 returns mul-if2 returns-2 listed-requires mul-result returns-3)
+    tie.close (tie.spec mul-if1 returns returns-2 listed-requires mul-result returns-3)

@@ -9,18 +9,15 @@ origin-requires c κs = search needs
 
 run-requires : tie.Need-run-requires
 run-requires c κs =
-    let k = c .before .before .before .before .before .before .before .before .before .before in
-    (k .pre .0, (origin-reached _ _ (c .before .before .before .before .before .origin .ensures) (k .pre .0), k .pre .1))
+    let k = c .before .before .before .before .before .before .before .before in
+    (k .pre .0, (origin-reached _ _ (c .before .before .before .before .origin .ensures) (k .pre .0), k .pre .1))
 
 same-length : tie.Need-same-length
 same-length c = search needs
 
-same-length-2 : tie.Need-same-length-2
-same-length-2 c = search needs
-
 returns : tie.Need-returns
 returns c =
-    filled-first _ _ (c .before .before .before .before .before .before .before .before .before .before .origin .ensures) _ _ _ _ _ _ (c .before .before .before .before .run .ensures)
+    filled-first _ _ (c .before .before .before .before .before .before .before .origin .ensures) _ _ _ _ (c .before .before .run .ensures)
 
 pub rows-spec : {M : Type 1} → statement M
-rows-spec = tie.close (tie.spec origin-requires run-requires same-length same-length-2 returns)
+rows-spec = tie.close (tie.spec origin-requires run-requires same-length returns)
