@@ -101,11 +101,13 @@ module _ (table words : List ℕ) (n : ℕ) where
       let time = short .time k (omega arith) in
       let old = w .each (rowOf words k .flow) flow in
       let begun = one-most (ltb (turnAbove words k) (rowOf words k .turn)) in
-      rw (lt-ltb left n (omega arith), at)
-      (omega (arith, flow, w .room), (
-        (λ _. (omega (arith, old .0), omega (arith, old .1, begun), omega (arith, old .2, time))),
-        rows-fit flows left (suc k) _ short few (omega arith) (counted-more flows k (turnAbove words k) fs (rowOf words k) flow time w),
-      ))
+      rw (lt-ltb left n (omega arith), at) (
+        omega (arith, flow, w .room),
+        (
+          (λ _. (omega (arith, old .0), omega (arith, old .1, begun), omega (arith, old .2, time))),
+          rows-fit flows left (suc k) _ short few (omega arith) (counted-more flows k (turnAbove words k) fs (rowOf words k) flow time w),
+        ),
+      )
 
   -- ---- the records are emptied before
   drop-set : (j : ℕ) (fs : List FlowRecord) → j < length fs → drop j (set fs j unlisted) ≡ unlisted ∷ drop (suc j) fs
