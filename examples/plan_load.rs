@@ -85,7 +85,7 @@ mod xarbulest {
                 table.as_ptr(),
                 table.len(),
                 records.as_mut_ptr(),
-                3 * records.len(),
+                records.len(),
                 rows.as_mut_ptr(),
                 rows.len(),
                 &mut counts,

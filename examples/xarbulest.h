@@ -79,9 +79,9 @@ struct xarbulest_plan_counts {
     uint64_t end;   /* the last row's finish at the last stage */
 };
 
-/* The length of a table of n blocks, flow records or rows, as the calls take it: in words. */
+/* The length of a table of n blocks, flow records or rows, as the calls take it: in words, and of flow records in records. */
 #define XARBULEST_BLOCKS_LENGTH(n) ((size_t)6 * (n))
-#define XARBULEST_FLOWS_LENGTH(n) ((size_t)3 * (n))
+#define XARBULEST_FLOWS_LENGTH(n) ((size_t)(n))
 #define XARBULEST_ROWS_LENGTH(n) ((size_t)15 * (n))
 
 /* The soundness call. It tests 1 to 6, and 8 to 11. */
@@ -110,7 +110,7 @@ size_t xarbulest_name(const uint8_t *file, size_t file_length, const uint8_t *st
  * The plan call. It tests 3, 4, 7 and then, block by block, 8, 9, 10, 11. It lists the first `limit` blocks started, or all
  * if there are fewer: a row for each, from the row table's start on, and a record for each flow. It needs 6 words for each
  * block, one flow record for each flow, and 15 row words for each block it will list. Room beyond that is left as found.
- * Lengths are in words: 6 a block, 3 a flow record, 15 a row.
+ * The lengths of table and rows are in words, 6 a block and 15 a row; the length of records counts flow records.
  */
 uint64_t xarbulest_plan(size_t stages, size_t flows, size_t blocks, uint64_t limit, const struct xarbulest_block *table,
                         size_t table_length, struct xarbulest_flow *records, size_t records_length,

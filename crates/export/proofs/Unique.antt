@@ -1,4 +1,4 @@
--- Each exported call determines its answer and each word that was lent to it.
+-- Each exported call determines its answer and each word and flow record that was lent to it.
 use mathlib.Core.List.{List}
 use mathlib.Core.Path.{_≡_, sym, ap, _∙_}
 use Prim.Native.Nat.{ℕ}
@@ -9,11 +9,12 @@ use Rattle.loadfile.specs.declared.Answer.{Answer}
 use Rattle.loadfile.specs.Calls.{answerCounts}
 use Rattle.loadfile.specs.Calls as reader
 use Rattle.rules.specs.declared.answer.Planned.{Planned}
+use Rattle.rules.specs.declared.record.FlowRecord.{FlowRecord}
 use Rattle.rules.specs.Calls.{answerSummary}
 use Rattle.rules.specs.Calls as planner
 use Rattle.export.specs.Calls.{PlansInWords, ReadsInWords, countWords, summaryWords}
+use Rattle.export.proofs.PlanReads as plan
 use Rattle.export.proofs.xarbulest_name.Reads as name
-use Rattle.export.proofs.xarbulest_plan.Reads as plan
 use Rattle.export.proofs.xarbulest_read.Reads as read
 use Rattle.export.proofs.xarbulest_sound.Reads as sound
 
@@ -21,7 +22,7 @@ use Rattle.export.proofs.xarbulest_sound.Reads as sound
 same-read : (file table : List ℕ) (k k′ : ℕ) (t t′ w w′ : List ℕ) (p : ReadsInWords file table k t w) (q : ReadsInWords file table k′ t′ w′) → p .answer ≡ q .answer
 same-read file table k k′ t t′ w w′ p q = p .reads .answers ∙ sym (q .reads .answers)
 
-same-plan : (c : Counts) (n : ℕ) (table flows rows : List ℕ) (k k′ : ℕ) (f f′ t t′ w w′ : List ℕ)
+same-plan : (c : Counts) (n : ℕ) (table : List ℕ) (flows : List FlowRecord) (rows : List ℕ) (k k′ : ℕ) (f f′ : List FlowRecord) (t t′ w w′ : List ℕ)
     (p : PlansInWords c n table flows rows k f t w) (q : PlansInWords c n table flows rows k′ f′ t′ w′) → p .answer ≡ q .answer
 same-plan c n table flows rows k k′ f f′ t t′ w w′ p q = p .plans .answers ∙ sym (q .plans .answers)
 

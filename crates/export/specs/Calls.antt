@@ -11,6 +11,7 @@ use Rattle.loadfile.specs.Calls.{Reads, answerCounts, shownName}
 use Rattle.loadfile.specs.Calls as reader
 use Rattle.rules.specs.declared.answer.Planned.{Planned}
 use Rattle.rules.specs.declared.answer.Summary.{Summary}
+use Rattle.rules.specs.declared.record.FlowRecord.{FlowRecord}
 use Rattle.rules.specs.Calls.{Plans, answerSummary}
 use Rattle.rules.specs.Calls as planner
 
@@ -38,7 +39,7 @@ pub record Names (file standing : List ℕ) (flow : ℕ) (room : List ℕ) (size
   pub leaves : roomThen ≡ roomAfter (shownName file standing flow) room
 
 -- The plan call's answer, as a number and six words, and the tables as the plan call leaves them.
-pub record PlansInWords (c : Counts) (n : ℕ) (table flows rows : List ℕ) (number : ℕ) (flowsThen rowsThen countsThen : List ℕ) : Type 0 where
+pub record PlansInWords (c : Counts) (n : ℕ) (table : List ℕ) (flows : List FlowRecord) (rows : List ℕ) (number : ℕ) (flowsThen : List FlowRecord) (rowsThen countsThen : List ℕ) : Type 0 where
   pub answer : Planned
   pub plans : Plans c n table flows rows answer flowsThen rowsThen
   pub numbers : number ≡ planner.answerNumber answer

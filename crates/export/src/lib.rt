@@ -8,6 +8,7 @@ ghost use Rattle.load.specs.Refusals.{verdictNumber};
 ghost use Rattle.loadfile.specs.Calls.{soundness};
 ghost use Rattle.export.specs.Calls.{Names, PlansInWords, ReadsInWords};
 use load::counts::Counts;
+use rules::record::FlowRecord;
 
 // The soundness call: document 01's number, 0 for a sound file.
 #[no_mangle]
@@ -51,7 +52,7 @@ pub extern "C" fn xarbulest_plan(
     blocks: usize,
     limit: u64,
     table: &[u32],
-    records: &mut [u64],
+    records: &mut [FlowRecord],
     rows: &mut [u64],
     counts: &mut [u64; 6],
 ) -> u64

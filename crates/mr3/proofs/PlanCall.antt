@@ -14,7 +14,7 @@ use prog.Routine.{Routine}
 use prog.Wp.{Heap}
 use ghost.Atoms.{Atoms, sem}
 use contract.Monad.{Fun, fact}
-use types.Kit.{Given, ‵, raw, _⊛_, some, later, ⋆, _$_, _∵_, !, qed, move, keep, drop, use1, group, split, join, pick, fsplit, fjoin, frame, await, updating, now as at-once, check, show, done}
+use types.Kit.{Given, ‵, raw, _⊛_, some, later, ⋆, _$_, _∵_, !, qed, move, keep, drop, use1, group, split, join, pick, fsplit, fjoin, feqL, frame, await, updating, now as at-once, check, show, done}
 use denote.Laws.{Is, shows}
 use denote.Plain.{uint-makes}
 use denote.Builtin.{u32, u64}
@@ -75,9 +75,9 @@ module _ {M : Type 1} (𝓤 : URA M) (H : Heap 𝓤) (A : Atoms 𝓤) (W : Given
       qed W (‵ (flft (ν₂ ∷ []) fullShare) ∷ ‵ lent₂ ∷ ‵ (flft (ν₃ ∷ []) fullShare) ∷ ‵ lent₃ ∷ ‵ (flft κ q) ∷ ‵ ownₓ ∷ []) ∵ move ! (5 ∷ []) $ use1 W (‵ ownₓ ⊛ ‵ ownₓ) (shr-slice-copy 𝓤 H A W (named 0) κ u32 .twice x (sₓ ∷ [])) $ split ! $
       move ! (2 ∷ 3 ∷ 4 ∷ 5 ∷ 6 ∷ 0 ∷ []) $ group ! 6 $ use1 W (raw (Plan 𝓤 H A mem run .pre to-plan)) (plan-pre is n-fits) $ done !
 
-  -- the answer, and what the two tables hold then
+  -- the answer, and what the two tables hold then: each is as long as it was
   abbrev pub Told : Val → Planned × (List FlowRecord × List ℕ) → Type 0
-  Told v y = (v ≡ P′.lowered (y .0)) × Is P.the-row (y .0) (P′.lowered (y .0) ∷ []) × Plans c n (x .now) (x₂ .now) (x₃ .now) (y .0) (y .1 .0) (y .1 .1)
+  Told v y = (v ≡ P′.lowered (y .0)) × Is P.the-row (y .0) (P′.lowered (y .0) ∷ []) × Plans c n (x .now) (x₂ .now) (x₃ .now) (y .0) (y .1 .0) (y .1 .1) × (length (y .1 .0) ≡ length (x₂ .now)) × (length (y .1 .1) ≡ length (x₃ .now))
 
   abbrev given-back : Val → Planned × (List FlowRecord × List ℕ) → SProp 𝓤
   given-back v y = guard 𝓤 (Told v y) (sep 𝓤 (A .lft κ q) (sep 𝓤 (A .lft (ν₂ ∷ []) fullShare) (sep 𝓤 (A .lft (ν₃ ∷ []) fullShare) (sep 𝓤 (sem 𝓤 H A (finally T.the-row (x₂ .name) (y .1 .0))) (sem 𝓤 H A (finally u64 (x₃ .name) (y .1 .1)))))))
@@ -89,9 +89,9 @@ module _ {M : Type 1} (𝓤 : URA M) (H : Heap 𝓤) (A : Atoms 𝓤) (W : Given
       ⊛ some (λ (ws : Lasts plan.ended (κ, (ν₂ ∷ [], (ν₃ ∷ [], tt))) plan-args). ‵ (lasts plan.ended (κ, (ν₂ ∷ [], (ν₃ ∷ [], tt))) plan-args ws) ⊛ raw (fact 𝓤 (Plans c n (x .now) (x₂ .now) (x₃ .now) r (ws .1 .1 .1 .0) (ws .1 .1 .1 .1 .0))))))) (id⊢ 𝓤 _) $ await ! tt $ pick ! (λ r.
       split ! $ move ! (1 ∷ []) $ pick ! (λ ws. split ! $ move ! (1 ∷ []) $ heard ! (Plans c n (x .now) (x₂ .now) (x₃ .now) r (ws .1 .1 .1 .0) (ws .1 .1 .1 .1 .0)) (λ e.
       fsplit ! $ drop ! $ fsplit ! $ drop ! $ fsplit ! $ drop ! $ fsplit ! $ fsplit ! $ move ! (2 ∷ []) $ fsplit ! $ fsplit ! $
-      -- [what is said last of the rows; …; …; what is said last of the records; …; the tokens and the result]
-      move ! (5 ∷ []) $ split ! $ split ! $ move ! (1 ∷ []) $ split ! $ move ! (1 ∷ []) $ split ! $
-      -- [ν₃'s token; true; ν₂'s; κ's; the result; what is said last of the rows; …; …; and of the records; …]
+      -- [what is said last of the rows; its length; …; what is said last of the records; its length; the tokens and the result]
+      move ! (1 ∷ []) $ feqL ! (λ le₃. move ! (3 ∷ []) $ feqL ! (λ le₂. move ! (3 ∷ []) $ split ! $ split ! $ move ! (1 ∷ []) $ split ! $ move ! (1 ∷ []) $ split ! $
+      -- [ν₃'s token; true; ν₂'s; κ's; the result; what is said last of the rows; …; and of the records]
       move ! (4 ∷ []) $ facts ! P.the-row (Is P.the-row) (shows 𝓤 H A P.the-row) r (v ∷ []) (λ is.
       let v-is : v ∷ [] ≡ P′.lowered r ∷ [] = P′.lowers .val-is r _ is in
-      at-once ! $ show ! (given-back v) (r, (ws .1 .1 .1 .0, ws .1 .1 .1 .1 .0)) $ check ! (ap only v-is, subst (λ (us : List Val). Is P.the-row r us) v-is is, e) $ keep ! (3 ∷ 2 ∷ 0 ∷ 7 ∷ 4 ∷ []) $ done !))))
+      at-once ! $ show ! (given-back v) (r, (ws .1 .1 .1 .0, ws .1 .1 .1 .1 .0)) $ check ! (ap only v-is, subst (λ (us : List Val). Is P.the-row r us) v-is is, e, le₂, le₃) $ keep ! (3 ∷ 2 ∷ 0 ∷ 6 ∷ 4 ∷ []) $ done !))))))

@@ -1,4 +1,5 @@
 // A flow's record: blocks listed, turns begun, sum of their dominant times.
+#[repr(C)]
 pub struct FlowRecord {
     pub blocks: u64,
     pub turns: u64,
