@@ -1,7 +1,6 @@
 // A case after its head: its parts are read, its call is made, and its line is written.
 use crate::head::Call;
 use crate::head::Head;
-use crate::line;
 use crate::planned;
 use crate::table;
 use libc::STDIN_FILENO;

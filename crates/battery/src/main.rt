@@ -1,26 +1,30 @@
 // Runs the cases on standard input against the calls of loadfile and mr3, and writes a line for each.
 mod case;
 mod head;
-mod line;
 mod planned;
 mod records;
 mod table;
 mod words;
 
 use head::Next;
+use libc::STDOUT_FILENO;
+
+fn bad_case() {
+    io::write_all(STDOUT_FILENO, b"bad case\n");
+}
 
 // Reads and runs the next case, and answers whether to go on.
 fn turn(file: &mut [u8], standing: &mut [u8], table: &mut [u32], rows: &mut [u64]) -> bool {
     match head::read() {
         Next::End => false,
         Next::Bad => {
-            line::bad_case();
+            bad_case();
             false
         }
         Next::Case(head) => {
             let is_whole = case::finish(head, file, standing, table, rows);
             if !is_whole {
-                line::bad_case();
+                bad_case();
             }
             is_whole
         }

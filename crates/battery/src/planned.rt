@@ -2,7 +2,6 @@
 ghost use Prim.Native.Nat.{_+_, _*_, _<_, _≤_};
 ghost use lib.ListN.{length};
 use crate::head;
-use crate::line;
 use crate::records;
 use crate::records::Flows;
 use crate::words;

@@ -1,6 +1,5 @@
 // The block table that a reader's case lends: what stands in it before the call, and how it is written after.
 ghost use Prim.Native.Nat.{_<_};
-use crate::line;
 
 fn wide(word: u32) -> u64
     ensures { λ r. ⌜ r < 4294967296 ⌝ }

@@ -1,6 +1,5 @@
 // A table of 64-bit words that a plan's case lends: what stands in it before the call, and how it is written after.
 ghost use Prim.Native.Nat.{_<_};
-use crate::line;
 
 // Word i becomes first + i, so that a line shows which words the call wrote.
 pub fn mark(table: &mut [u64], first: u64) {

@@ -1,7 +1,6 @@
 // What is printed of a load file: its plan's counts and rows, or the number of its refusal.
 ghost use Prim.Native.Nat.{_≤_};
 ghost use lib.ListN.{length};
-use crate::line;
 use load::refusal::Refusal;
 use load::refusal::Verdict;
 use rules::answer::Summary;

@@ -1,5 +1,5 @@
 // Reads a load file from standard input, plans it and prints the plan.
-mod line;
+
 mod listing;
 
 use libc::STDIN_FILENO;

@@ -1,8 +1,8 @@
-// A line is collected in an array, so that it takes one write. `at` is how many of its bytes are there.
+// What a program prints, line by line. A line is collected in an array, so that it takes one write. `at` is how many of its bytes are there.
 ghost use Prim.Native.Nat.{_≤_};
 use libc::STDOUT_FILENO;
 
-// Longer than any line that a case has.
+// Longer than any line of the two programs.
 pub type Line = [u8; 4096];
 
 pub fn empty() -> Line {
@@ -10,7 +10,7 @@ pub fn empty() -> Line {
 }
 
 // Puts a byte. A full array is written out first, so that no byte is lost.
-fn put(out: &mut Line, at: usize, byte: u8) -> usize
+pub fn put(out: &mut Line, at: usize, byte: u8) -> usize
     ensures { λ r. ⌜ r ≤ 4096 ⌝ }
 {
     if at < 4096 {
@@ -65,8 +65,4 @@ pub fn end(out: &mut Line, at: usize) {
     let n = put(out, at, b'\n');
     let line: &[u8] = out;
     io::write_all(STDOUT_FILENO, &line[0..n]);
-}
-
-pub fn bad_case() {
-    io::write_all(STDOUT_FILENO, b"bad case\n");
 }
