@@ -247,16 +247,12 @@ E9 = record {
   counts = 1 ∷ 1 ∷ 1 ∷ 0 ∷ 0 ∷ 6 ∷ [];
 }
 
+-- E2 again, with a limit
 unfoldable pub E10 : Example
 E10 = record {
-  stages = 2;
-  flows = 2;
-  blocks =
-      (0 ∷ 0 ∷ 1 ∷ 3 ∷ 0 ∷ 0 ∷ [])
-      ∷ (1 ∷ 0 ∷ 3 ∷ 1 ∷ 0 ∷ 0 ∷ [])
-      ∷ (0 ∷ 0 ∷ 1 ∷ 3 ∷ 0 ∷ 0 ∷ [])
-      ∷ (1 ∷ 0 ∷ 3 ∷ 1 ∷ 0 ∷ 0 ∷ [])
-      ∷ [];
+  stages = E2 .stages;
+  flows = E2 .flows;
+  blocks = E2 .blocks;
   limit = 2;
   rows =
       (0 ∷ 0 ∷ 1 ∷ 1 ∷ 0 ∷ 0 ∷ 2 ∷ 0 ∷ 1 ∷ 1 ∷ 4 ∷ 0 ∷ 0 ∷ 0 ∷ 0 ∷ [])
@@ -271,14 +267,9 @@ E10 = record {
 
 unfoldable pub E10-none : Example
 E10-none = record {
-  stages = 2;
-  flows = 2;
-  blocks =
-      (0 ∷ 0 ∷ 1 ∷ 3 ∷ 0 ∷ 0 ∷ [])
-      ∷ (1 ∷ 0 ∷ 3 ∷ 1 ∷ 0 ∷ 0 ∷ [])
-      ∷ (0 ∷ 0 ∷ 1 ∷ 3 ∷ 0 ∷ 0 ∷ [])
-      ∷ (1 ∷ 0 ∷ 3 ∷ 1 ∷ 0 ∷ 0 ∷ [])
-      ∷ [];
+  stages = E2 .stages;
+  flows = E2 .flows;
+  blocks = E2 .blocks;
   limit = 0;
   rows = [];
   records =
