@@ -9,7 +9,7 @@ use Rattle.load.specs.declared.refusal.Verdict.the-variants as verdict
 use Rattle.rules.specs.declared.answer.Planned.the-variants.{Refused, Plan}
 use Rattle.rules.specs.declared.answer.Summary.{Summary}
 use Rattle.rules.specs.Calls.{answerOf, planVerdict, rowsAfter}
-use Rattle.rules.specs.Counts.{Filled}
+use Rattle.mr3.specs.Written.{Filled}
 use Rattle.rules.specs.Load.{loadOf}
 use Rattle.rules.specs.Plan.{origin, plan, run}
 use Rattle.mr3.specs.Changes.{Answers, changesMade, rowsListed}

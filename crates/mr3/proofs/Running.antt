@@ -14,7 +14,8 @@ use Rattle.load.proofs.Parts.{drop-over, length-over, over, take-over}
 use Rattle.rules.specs.declared.answer.Summary.{Summary}
 use Rattle.rules.specs.declared.row.Row.{Row}
 use Rattle.rules.specs.Counts as counts
-use Rattle.rules.specs.Counts.{counted, Filled, one, summary}
+use Rattle.rules.specs.Counts.{counted, one, summary}
+use Rattle.mr3.specs.Written.{Filled}
 use Rattle.rules.specs.Load.{Load}
 use Rattle.rules.specs.Plan.{origin, rowsFrom, run, Started, State, step}
 use Rattle.rules.specs.Rows.{rowsWords, rowWords, wayWords}

@@ -1,5 +1,5 @@
--- What the planner decides when stage 1 is free, as one flow's account sees it: `settles`, for all flows with one gain.
-use Prim.Native.Nat.{ℕ, zero, suc, _+_, _-_}
+-- What the planner decides when stage 1 is free, as one flow's account sees it: `settled-settles`, for all flows with one gain.
+use Prim.Native.Nat.{ℕ, zero, suc, _+_, _-_, _≤_}
 use mathlib.Core.Bool.{true, false, true≢false, cond}
 use mathlib.Core.List.{List, [], _∷_}
 use mathlib.Core.Path.{_≡_, refl, sym, _∙_}
@@ -73,6 +73,16 @@ unfolding Settles
 same Waits (Out x) = λ _. (omega arith, refl)
 same Waits (In x) = (refl, refl, refl)
 
+-- A flow that joins the tail with an excess owes that, and is due nothing of the round; of the others nothing changes.
+module _ (f g excess : ℕ) (c : Core) (long : c .round .left ≤ length (c .line .wait)) where
+  rejoined-own : g ≡ f → listed f (c .line .wait) ≡ false → listedAs f (rejoined c g excess) ≡ record { due = 0; owed = excess }
+  unfolding noted rejoined withLine withRound
+  rejoined-own is out = joined-own f (allowed f (c .round .credit)) (c .round .left) _ (c .line .wait) long out is
+
+  rejoined-other : (g ≡ f → ⊥) → listedAs f (rejoined c g excess) ≡ listedAs f c
+  unfolding noted rejoined withLine withRound
+  rejoined-other differs = joined-same f (allowed f (c .round .credit)) (c .round .left) _ (c .line .wait) long (λ is. absurd (differs is))
+
 module _ (L : Load) (k f : ℕ) where
   abbrev OpenAt : Core → Type 0
   OpenAt c = Open L (c .from) (c .line .next) f
@@ -90,18 +100,17 @@ module _ (L : Load) (k f : ℕ) where
         (λ other. rw other (λ _. (omega arith, refl)))
 
     turn-rejoins : leb (t .spent) (t .allowance) ≡ false → SettlesTo c 0 (account f (InTurn t) c) (state Idle (rejoined c (t .flow) (t .spent - t .allowance)))
-    unfolding Settles account noted rejoined state withLine withRound
+    unfolding Settles account state
     turn-rejoins past =
         let long = split-length (c .round .left) (c .round .credit) (c .round .most) (c .line .wait) s in
         let over = leb-false (t .spent) (t .allowance) past in
+        let excess = t .spent - t .allowance in
         cases (eqb (t .flow) f)
         (λ own.
         let is = eqb-true (t .flow) f own in
         let out : listed f (c .line .wait) ≡ false = rw (← is) (w .1 .apart .0) in
-        rw (own, joined-own f (allowed f (c .round .credit)) (c .round .left) (record { flow = t .flow; excess = t .spent - t .allowance }) (c .line .wait) long out is) (λ _. (refl, omega arith)))
-        (λ other.
-        let differs = eqb-false (t .flow) f other in
-        rw (other, joined-same f (allowed f (c .round .credit)) (c .round .left) (record { flow = t .flow; excess = t .spent - t .allowance }) (c .line .wait) long (λ is. absurd (differs is))) (λ _. (omega arith, refl)))
+        rw (own, rejoined-own f (t .flow) excess c long is out) (λ _. (refl, omega arith)))
+        (λ other. rw (other, rejoined-other f (t .flow) excess c long (eqb-false (t .flow) f other)) (λ _. (omega arith, refl)))
 
   -- a flow that waits is listed, so no time passes and the head is taken
   module _ (c : Core) (w : Whole L k Idle c) where

@@ -52,8 +52,9 @@ module _ (c : Counts) (n : ℕ) (table : List ℕ) (flowRecords rowWords : ℕ) 
   pub plan-fair : Fair L (plan L n)
   unfolding plan
   plan-fair = record {
-    alike = λ i j t₁ t₂ wᵢ wⱼ. origin-fair L (largestTime L) sound t₁ t₂ i j (min n (c .blocks)) (omega arith) (λ t from to _. wᵢ t from to) (λ t from to _. wⱼ t from to);
-    turns = λ f t. origin-turns L (largestTime L) sound f t (min n (c .blocks)) (omega arith);
+    alike = λ i j t₁ t₂ wᵢ wⱼ.
+        omega (arith, origin-fair L (largestTime L) sound t₁ t₂ i j (min n (c .blocks)) (omega arith) (λ t from to _. wᵢ t from to) (λ t from to _. wⱼ t from to));
+    turns = λ f t. omega (arith, origin-turns L (largestTime L) sound f t (min n (c .blocks)) (omega arith));
   }
 
 -- rows written and read again

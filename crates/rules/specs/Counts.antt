@@ -1,16 +1,14 @@
 -- Counts and flow records, from the rows alone.
-use Prim.Native.Nat.{ℕ, _+_, _*_}
-use mathlib.Core.Path.{_≡_}
+use Prim.Native.Nat.{ℕ, _+_}
 use mathlib.Core.Bool.{Bool, true, false}
-use mathlib.Core.List.{List, [], _∷_, _++_}
+use mathlib.Core.List.{List, [], _∷_}
 use lib.Dec.{ltb}
-use lib.ListN.{length, getD, set, drop}
+use lib.ListN.{getD, set}
 use Rattle.load.specs.Dominant.{dominantTime}
 use Rattle.rules.specs.declared.answer.Summary.{Summary}
 use Rattle.rules.specs.declared.record.FlowRecord.{FlowRecord}
 use Rattle.rules.specs.declared.row.Row.{Row}
-use Rattle.rules.specs.Load.{Load, blockAt}
-use Rattle.rules.specs.Rows.{rowsWords}
+use Rattle.rules.specs.Load.{blockAt}
 use Rattle.rules.specs.Stages.{lastRun}
 
 unfoldable pub one : Bool → ℕ
@@ -53,8 +51,3 @@ recorded table before fs r =
 unfoldable pub records : List ℕ → ℕ → List FlowRecord → List Row → List FlowRecord
 records table before fs [] = fs
 records table before fs (r ∷ rs) = records table (r .turn) (recorded table before fs r) rs
-
--- Rows, counted and written: the summary, and the row table, whose room beyond need is left.
-pub record Filled (L : Load) (rs : List Row) (rows : List ℕ) (s : Summary) (rowsThen : List ℕ) : Type 0 where
-  pub counts : s ≡ summary (L .counts .stages) none rs
-  pub written : rowsThen ≡ rowsWords rs ++ drop (15 * length rs) rows

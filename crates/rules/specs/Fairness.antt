@@ -57,8 +57,8 @@ openTurns stages f t above (r ∷ rs) =
     one (eqb (r .flow) f && ltb above (r .turn) && leb (r .way .one .start) t && ltb t (turnEnd stages (r .turn) 0 (r ∷ rs)))
     + openTurns stages f t (r .turn) rs
 
--- Of two flows that both wait at each tick from one up to but without a later one, neither receives between those ticks more than
--- the other by above so many times the load's largest stage time.
+-- Of two flows that both wait at each tick from one up to but without a later one, what either receives between those ticks is at
+-- most what the other does and so many times the load's largest stage time.
 abbrev pub ServedAlike : ℕ → Load → List Row → Type 0
 ServedAlike times L rs =
     (i j t₁ t₂ : ℕ) → WaitsFrom (L .table) i t₁ t₂ rs → WaitsFrom (L .table) j t₁ t₂ rs → service i t₁ t₂ rs ≤ service j t₁ t₂ rs + times * largestTime L
