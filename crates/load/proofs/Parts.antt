@@ -38,9 +38,3 @@ module _ (t : List ℕ) (to : ℕ) (w : List ℕ) (n : ℕ) (long : length w ≡
   put-over =
       let none : drop (to + (length t - to)) t ≡ [] = drop-of-length-le t {i = to + (length t - to)} (omega arith) in
       simp (part-rest, drop-drop, none, append-nil, append-assoc, long)
-
--- a part from a place on, put back
-pub put-rest : (a : ℕ) (s ys : List ℕ) → putMid a (length s - a) s ys ≡ take a s ++ ys
-put-rest a s ys =
-    let none : drop (a + (length s - a)) s ≡ [] = drop-of-length-le s {i = a + (length s - a)} (omega arith) in
-    simp (drop-drop, none, append-nil)

@@ -49,33 +49,20 @@ unfolding taken
 taken-none c [] q = refl
 taken-none c (x ∷ xs) q = let z : _≡_ {A = ℕ} 0 1 = cc in absurd (omega arith)
 
--- The ready tick. `w` is the list: not empty, empty with no block to come, or empty with an arrival to wait for.
+-- The ready tick: the list has a head, or it is empty and the planner goes on to the next arrival, if one is to come.
 module _ (L : Load) (c : Core) where
-  woken-not : (w : List Entry) (e : Entry) (v : List Entry) → w ≡ e ∷ v → woken L c w ≡ c
+  pub woken-never : L .counts .blocks ≤ c .line .next → woken L c [] ≡ c
   unfolding woken
-  woken-not [] e v q = let z : _≡_ {A = ℕ} 0 1 = cc in absurd (omega arith)
-  woken-not (x ∷ xs) e v q = refl
+  woken-never h = rw (le-ltb (c .line .next) (L .counts .blocks) h)
 
-  woken-never : (w : List Entry) → w ≡ [] → L .counts .blocks ≤ c .line .next → woken L c w ≡ c
+  pub woken-later : c .line .next < L .counts .blocks → woken L c [] ≡ upTo L Idle (blockAt (L .table) (c .line .next) .arrival) c
   unfolding woken
-  woken-never [] q h = rw (le-ltb (c .line .next) (L .counts .blocks) h)
-  woken-never (x ∷ xs) q h = let z : _≡_ {A = ℕ} 0 1 = cc in absurd (omega arith)
-
-  woken-later : (w : List Entry) → w ≡ [] → c .line .next < L .counts .blocks → woken L c w ≡ upTo L Idle (blockAt (L .table) (c .line .next) .arrival) c
-  unfolding woken
-  woken-later [] q h = rw (lt-ltb (c .line .next) (L .counts .blocks) h)
-  woken-later (x ∷ xs) q h = let z : _≡_ {A = ℕ} 0 1 = cc in absurd (omega arith)
-
-  from-woken : (x : Core) → woken L c (c .line .wait) ≡ x → readied L c ≡ taken x (x .line .wait)
-  unfolding readied
-  from-woken x q = ap (λ (y : Core). taken y (y .line .wait)) q
+  woken-later h = rw (lt-ltb (c .line .next) (L .counts .blocks) h)
 
   pub readied-takes : (e : Entry) (v : List Entry) → c .line .wait ≡ e ∷ v → readied L c ≡ taken c (c .line .wait)
-  readied-takes e v q = from-woken c (woken-not (c .line .wait) e v q)
+  unfolding readied woken
+  readied-takes e v q = rw q
 
-  pub readied-ends : c .line .wait ≡ [] → L .counts .blocks ≤ c .line .next → readied L c ≡ state Idle c
-  readied-ends q h = from-woken c (woken-never (c .line .wait) q h) ∙ taken-none c (c .line .wait) q
-
-  pub readied-wakes : c .line .wait ≡ [] → c .line .next < L .counts .blocks
-      → (x : Core) → x ≡ upTo L Idle (blockAt (L .table) (c .line .next) .arrival) c → readied L c ≡ taken x (x .line .wait)
-  readied-wakes q h x same = from-woken x (woken-later (c .line .wait) q h ∙ sym same)
+  pub readied-wakes : (x : Core) → c .line .wait ≡ [] → x ≡ woken L c [] → readied L c ≡ taken x (x .line .wait)
+  unfolding readied
+  readied-wakes x q same = ap (λ (y : Core). taken y (y .line .wait)) (ap (woken L c) q ∙ sym same)

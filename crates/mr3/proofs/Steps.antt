@@ -14,7 +14,7 @@ use prog.Routine.{Routine}
 use prog.Wp.{Heap}
 use ghost.Atoms.{Atoms, sem}
 use contract.Monad.{Fun, fact}
-use types.Kit.{Given, ‵, raw, _⊛_, some, later, ⋆, _$_, _∵_, !, qed, move, keep, drop, use1, group, split, join, pick, rewrite, fsplit, fjoin, feqL, frame, await, updating, now as at-once, check, done}
+use types.Kit.{Given, ‵, raw, _⊛_, some, later, ⋆, _$_, _∵_, !, qed, move, keep, use1, group, split, join, pick, rewrite, fsplit, fjoin, feqL, frame, await, updating, now as at-once, check, done}
 use denote.Laws.{Is, shows}
 use denote.Plain.{uint-makes}
 use denote.Builtin.{u32, u64, usize, unit}

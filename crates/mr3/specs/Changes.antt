@@ -1,9 +1,9 @@
 -- How the flow table is made from the words of the rows: one change of a record after the other.
 use Prim.Native.Nat.{ℕ, zero, suc, _+_, _-_, _*_, _≤_, _<_, _^_, min}
-use mathlib.Core.Bool.{Bool, true, false, cond}
+use mathlib.Core.Bool.{true, false, cond}
 use mathlib.Core.List.{List}
 use mathlib.Core.Path.{_≡_}
-use lib.Dec.{leb, ltb}
+use lib.Dec.{ltb}
 use lib.ListN.{drop, getD, length, set}
 use Rattle.load.specs.declared.counts.Counts.{Counts}
 use Rattle.load.specs.declared.refusal.Verdict.{Verdict}

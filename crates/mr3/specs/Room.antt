@@ -1,6 +1,6 @@
 -- Bounds of the code's numbers, by which its sums fit 64 bits and its indices their arrays: where a step begins, and room for one
 -- block more.
-use Prim.Native.Nat.{ℕ, _+_, _≤_, _<_}
+use Prim.Native.Nat.{ℕ, _≤_, _<_}
 use Rattle.load.specs.declared.counts.Counts.{Counts}
 use Rattle.rules.specs.declared.answer.Summary.{Summary}
 use Rattle.rules.specs.declared.mode.Mode.{Mode}

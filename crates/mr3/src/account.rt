@@ -1,6 +1,6 @@
 // The accounts of a round. They know no time.
 ghost use mathlib.Core.Path.{_≡_};
-ghost use Prim.Native.Nat.{_<_, _≤_};
+ghost use Prim.Native.Nat.{_<_};
 ghost use Rattle.rules.specs.Account.{called as Account·called, noted as Account·noted};
 use rules::round::Round;
 

@@ -5,7 +5,6 @@ ghost use Prim.Native.Nat.{ℕ, _+_, _*_, _-_, _≤_, _<_};
 ghost use lib.ListN.{length};
 ghost use Rattle.rules.specs.Load.{blockAt, loadOf};
 ghost use Rattle.rules.specs.Plan.{arrivals, arrived, busy as Plan·busy, upTo};
-ghost use Rattle.rules.specs.Within.{Accepted};
 ghost use Rattle.mr3.specs.Storage.{coreOf, entriesOf, lineOf};
 use crate::list;
 use crate::list::Storage;

@@ -1,8 +1,7 @@
 // The rows one after the other, and what is counted of them.
 ghost use mathlib.Core.Path.{_≡_};
-ghost use mathlib.Core.List.{List, _++_};
-ghost use Prim.Native.Nat.{ℕ, _*_, _≤_};
-ghost use lib.ListN.{drop, length, replicate};
+ghost use Prim.Native.Nat.{_*_, _≤_};
+ghost use lib.ListN.{length, replicate};
 ghost use Rattle.rules.specs.Load.{loadOf};
 ghost use Rattle.rules.specs.Plan.{origin as Plan·origin, run as Plan·run};
 ghost use Rattle.rules.specs.Within.{Accepted, StateWithin};

@@ -1,11 +1,11 @@
 // What is decided when stage 1 is free: whether the turn goes on, and else who is taken next.
 ghost use mathlib.Core.Path.{_≡_};
-ghost use mathlib.Core.List.{List, _∷_};
+ghost use mathlib.Core.List.{List, [], _∷_};
 ghost use Prim.Native.Nat.{ℕ, _+_, _*_, _-_, _≤_, _<_};
 ghost use lib.ListN.{length};
 ghost use Rattle.rules.specs.declared.mode.Mode.the-variants.{InTurn};
 ghost use Rattle.rules.specs.Load.{loadOf};
-ghost use Rattle.rules.specs.Plan.{onward as Plan·onward, readied, rejoined, settled, taken, tested as Plan·tested};
+ghost use Rattle.rules.specs.Plan.{onward as Plan·onward, readied, rejoined, settled, taken, tested as Plan·tested, woken};
 ghost use Rattle.mr3.specs.Room.{Settles};
 ghost use Rattle.mr3.specs.Storage.{coreOf, entriesOf, stateOf};
 use crate::account;
@@ -113,27 +113,32 @@ fn call(core: Core, entry: Entry) -> Planner
     }
 }
 
-// The list is empty, so the planner goes on to the next arrival and takes the flow that joins there.
-fn wake(counts: Counts, blocks: &[u32], core: Core, list: &mut Storage) -> Planner
-    requires { ⌜ (counts .blocks ≤ 1024) × (6 * counts .blocks ≤ length (now blocks)) × (core .line .waiting ≡ 0) × (core .line .next ≤ counts .blocks) × (core .round .number < 1000000) ⌝ }
-    ensures { λ r. ⌜ ((from gate : List ℕ) → stateOf r (now (list .exit)) from gate ≡ readied (loadOf counts (now (blocks .entry))) (coreOf core (now (list .entry)) from gate)) ⌝ }
+// The list is empty, so the planner goes on to the next arrival, if one is to come: only the clock moves.
+fn wake(counts: Counts, blocks: &[u32], core: Core, list: &mut Storage) -> Core
+    requires { ⌜ (counts .blocks ≤ 1024) × (6 * counts .blocks ≤ length (now blocks)) × (core .line .waiting ≡ 0) × (core .line .next ≤ counts .blocks) ⌝ }
+    ensures { λ r. ⌜ ((from gate : List ℕ) → coreOf r (now (list .exit)) from gate ≡ woken (loadOf counts (now (blocks .entry))) (coreOf core (now (list .entry)) from gate) []) ⌝ }
+    ensures { λ r. ⌜ (r .line .waiting ≤ 1024) × (r .round ≡ core .round) ⌝ }
 {
     let next = core.line.next;
     if counts.blocks <= next {
+        return core;
+    }
+    let tick = arrivals::arrival(blocks, next);
+    arrivals::up_to(counts, blocks, Mode::Idle, tick, core, list)
+}
+
+// The head of the list is taken, and the planner is idle where there is none.
+fn take_head(core: Core, list: &mut Storage) -> Planner
+    requires { ⌜ (core .line .waiting ≤ 1024) × (core .round .number < 1000000) ⌝ }
+    ensures { λ r. ⌜ ((from gate : List ℕ) → stateOf r (now (list .exit)) from gate ≡ taken (coreOf core (now (list .entry)) from gate) (entriesOf (core .line .waiting) (now (list .entry)))) ⌝ }
+{
+    let Head::Flow(entry) = list::take(list, core.line.waiting) else {
         return Planner {
             mode: Mode::Idle,
             core,
         };
-    }
-    let tick = arrivals::arrival(blocks, next);
-    let woken = arrivals::up_to(counts, blocks, Mode::Idle, tick, core, list);
-    let Head::Flow(entry) = list::take(list, woken.line.waiting) else {
-        return Planner {
-            mode: Mode::Idle,
-            core: woken,
-        };
     };
-    call(woken, entry)
+    call(core, entry)
 }
 
 // The ready tick: the head of the list is taken; where the list is empty, the planner goes on to the next arrival instead.
@@ -142,7 +147,8 @@ fn ready(counts: Counts, blocks: &[u32], core: Core, list: &mut Storage) -> Plan
     ensures { λ r. ⌜ ((from gate : List ℕ) → stateOf r (now (list .exit)) from gate ≡ readied (loadOf counts (now (blocks .entry))) (coreOf core (now (list .entry)) from gate)) ⌝ }
 {
     let Head::Flow(entry) = list::take(list, core.line.waiting) else {
-        return wake(counts, blocks, core, list);
+        let woken = wake(counts, blocks, core, list);
+        return take_head(woken, list);
     };
     call(core, entry)
 }

@@ -7,7 +7,6 @@ use native.Mathlib.Numerals.{sub-one}
 use native.Mathlib.Omega.{arith}
 use borrow.Author.Needs.{needs}
 use borrow.Author.Tests.{le-ltb, lt-ltb}
-use Rattle.mr3.specs.declared.record.Change.{Change}
 use Rattle.mr3.specs.Changes.{adds, changeOf, empties, kind}
 use Rattle.mr3.proofs.record.next.Statement.{statement}
 use Rattle.mr3.proofs.record.next.Tie as tie

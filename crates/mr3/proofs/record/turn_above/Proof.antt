@@ -1,7 +1,7 @@
 -- `mr3::record::turn_above` meets its contract: the row above is 15 words before.
 use Prim.Native.Nat.{ℕ, zero, suc, _+_, _-_, _*_}
 use mathlib.Core.List.{List}
-use mathlib.Core.Path.{_≡_, refl, sym, ap, _∙_}
+use mathlib.Core.Path.{_≡_, refl, sym, ap}
 use native.Mathlib.Numerals.{sub-one}
 use borrow.Author.Needs.{needs}
 use lib.ListN.{getD}

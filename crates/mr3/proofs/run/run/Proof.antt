@@ -16,7 +16,7 @@ use Rattle.mr3.specs.declared.state.Planner.{Planner}
 use Rattle.mr3.specs.declared.step.Next.the-variants.{Start, Done}
 use Rattle.mr3.specs.declared.step.Next.{Next}
 use Rattle.mr3.specs.Storage.{nextOf, stateOf}
-use Rattle.mr3.proofs.Running.{row-long, row-room, row-within, Running, running-done, running-first, running-step, running-stops, summary-within}
+use Rattle.mr3.proofs.Running.{row-long, row-room, Running, running-done, running-first, running-step, running-stops, summary-within}
 use Rattle.mr3.proofs.run.run.Statement.{statement}
 use Rattle.mr3.proofs.run.run.Tie as tie
 

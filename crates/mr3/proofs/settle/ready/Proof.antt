@@ -1,10 +1,12 @@
--- `mr3::settle::ready` meets its contract: the list is empty and the planner wakes, or its head is called.
+-- `mr3::settle::ready` meets its contract: the list is empty and the head is taken after the clock has moved, or its head is called.
+use mathlib.Core.List.{[]}
 use mathlib.Core.Path.{ap, sym, _∙_}
 use native.Mathlib.Omega.{arith}
 use borrow.Author.Needs.{needs}
 use Rattle.rules.specs.Load.{loadOf}
-use Rattle.rules.specs.Plan.{readied}
-use Rattle.mr3.proofs.Deciding.{readied-takes}
+use Rattle.rules.specs.Plan.{Core, woken}
+use Rattle.mr3.proofs.Deciding.{readied-takes, readied-wakes}
+use Rattle.mr3.proofs.Entries.{entries-none}
 use Rattle.mr3.proofs.Taking.{head-empty, head-flow, none-waits}
 use Rattle.mr3.proofs.settle.ready.Statement.{statement}
 use Rattle.mr3.proofs.settle.ready.Tie as tie
@@ -23,11 +25,17 @@ wake-requires c κs =
     let none = head-empty _ _ _ (c .before .before .before .take .ensures .0) (c .before .enum-told .given .1) in
     omega arith
 
+take-head-requires : tie.Need-take-head-requires
+take-head-requires c κs = let w = c .before .wake .ensures .1 in (w .0, rw (w .1) (omega arith))
+
 returns : tie.Need-returns
 returns c = λ from gate.
-    let a = c .before .before .before .before .before .before .before .args in
-    let none = head-empty _ _ _ (c .before .before .before .before .take .ensures .0) (c .before .before .enum-told .given .1) in
-    c .wake .ensures from gate ∙ ap (readied (loadOf (a .counts) (a .blocks .now))) (none-waits (a .core) _ _ from gate none)
+    let w = c .before .before in
+    let taken = w .before .before .before .before in
+    let a = taken .before .before .before .args in
+    let none = head-empty _ _ _ (taken .take .ensures .0) (w .before .before .enum-told .given .1) in
+    let woke = w .wake .ensures .0 from gate ∙ ap (λ (x : Core). woken (loadOf (a .counts) (a .blocks .now)) x []) (none-waits (a .core) _ _ from gate none) in
+    c .take-head .ensures from gate ∙ sym (readied-wakes _ _ _ (entries-none _ _ (omega (arith, none))) woke)
 
 call-requires : tie.Need-call-requires
 call-requires c κs =
@@ -47,6 +55,7 @@ ready-spec =
     enum-known-entry
     enum-told
     wake-requires
+    take-head-requires
     returns
     call-requires
     returns-2)
