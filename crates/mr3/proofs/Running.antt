@@ -108,9 +108,6 @@ module _ (L : Load) (all : List Row) (rows₀ : List ℕ) (listed : ℕ) where
       bounds : StateWithin L (r .starts + 1) (q .then) × RowWithin L (r .starts) (q .row)
       bounds = step-within L ok (r .starts) s q (r .within) starts
 
-      pub row-within : RowWithin L (r .starts) (q .row)
-      row-within = bounds .1
-
       pub summary-within : SummaryWithin sum × (q .row .hold < 1_000_000_000_000_000_000)
       unfolding latest
       summary-within = (
