@@ -2,11 +2,11 @@
 
 use std::time::Instant;
 
-use crate::answer::{records_before, rows_before};
-use crate::cases_plan_shapes::full_loads;
-use crate::plan;
-use crate::plan_case::PlanCase;
-use crate::plan_load::ALL;
+use crate::battery::answer::{records_before, rows_before};
+use crate::battery::plan_case::PlanCase;
+use crate::build::plan_load::ALL;
+use crate::cases::plan_shapes::full_loads;
+use crate::rules::plan;
 
 /// How often each load is planned.
 const TIMES: usize = 200;

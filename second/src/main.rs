@@ -1,51 +1,29 @@
 //! The second program: it makes the file of cases for the four calls (soundness, reader, name,
 //! plan) and says, from document 01 alone, what the line of each case must be. Commands: cases,
 //! answers, count, test, fair, bench.
+//!
+//! The folders:
+//!
+//!   rules      document 01's rules
+//!   battery    a case, its form in the case file, its answer and the answer's line
+//!   build      load files and loads, made part by part or at random
+//!   checks     what plans promise, checked on their rows
+//!   cases      the cases
+//!   tests      the self-tests
 
-mod answer;
+mod battery;
 mod bench;
-mod case;
+mod build;
 mod cases;
-mod cases_block;
-mod cases_bytes;
-mod cases_edge;
-mod cases_flow;
-mod cases_generated;
-mod cases_header;
-mod cases_name;
-mod cases_order;
-mod cases_plan_events;
-mod cases_plan_examples;
-mod cases_plan_faults;
-mod cases_plan_limits;
-mod cases_plan_shapes;
-mod cases_plan_tables;
-mod cases_plan_ticks;
-mod cases_plan_unfair;
-mod cases_standing;
-mod cases_table;
-mod count;
-mod fair;
-mod file;
-mod load_file;
-mod loads;
-mod name;
-mod plan;
-mod plan_case;
-mod plan_check;
-mod plan_load;
-mod planner;
-mod random;
-mod row;
-mod stages;
+mod checks;
+mod rules;
 mod tests;
-mod tests_plan;
-mod turns;
-mod waiting;
 
 use std::io::{self, BufWriter, Read, Write};
 
-use case::Case;
+use battery::case::{self, Case};
+use battery::{answer, count};
+use checks::fair;
 
 fn main() {
     let command = std::env::args().nth(1).unwrap_or_default();
