@@ -2,7 +2,7 @@
 //! plan) and says, from document 01 alone, what the line of each case must be. Commands: cases,
 //! answers, count, test, fair, bench.
 //!
-//! The folders:
+//! The folders, of which each uses those above it:
 //!
 //!   rules      document 01's rules
 //!   battery    a case, its form in the case file, its answer and the answer's line
@@ -34,7 +34,7 @@ fn main() {
         "test" => run_tests(),
         "fair" => check_fairness(),
         "bench" => write_out(bench::text().as_bytes()),
-        _ => Err("use: second cases [files] | answers | count | test | fair | bench".to_string()),
+        _ => Err("use: second cases | answers | count | test | fair | bench".to_string()),
     };
     if let Err(message) = done {
         eprintln!("second: {}", message);
@@ -59,16 +59,10 @@ fn read_cases() -> Result<Vec<Case>, String> {
     case::decode(&bytes)
 }
 
-/// All cases, or with the word `files` after the command those of the calls on load files.
 fn write_cases() -> Result<(), String> {
-    let files_only = std::env::args().nth(2).as_deref() == Some("files");
     let made = cases::all();
-    let chosen: Vec<&Case> = made
-        .iter()
-        .map(|made| &made.case)
-        .filter(|case| !files_only || case.call != case::Call::Plan)
-        .collect();
-    write_out(&case::encode(&chosen))
+    let cases: Vec<&Case> = made.iter().map(|made| &made.case).collect();
+    write_out(&case::encode(&cases))
 }
 
 fn write_answers() -> Result<(), String> {
@@ -91,6 +85,7 @@ fn run_tests() -> Result<(), String> {
 }
 
 fn check_fairness() -> Result<(), String> {
-    let text = fair::text(&cases::all())?;
+    let made = cases::all();
+    let text = fair::text(made.iter().map(|made| &made.case))?;
     write_out(text.as_bytes())
 }

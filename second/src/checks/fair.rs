@@ -3,10 +3,9 @@
 //! limited plans have to be the beginning of the whole ones.
 
 use crate::battery::answer::planned;
-use crate::battery::case::Call;
+use crate::battery::case::{Call, Case};
 use crate::battery::plan_case::PlanCase;
 use crate::build::plan_load::PlanLoad;
-use crate::cases::Made;
 use crate::checks::plan::{self, require, Outcome};
 use crate::checks::turns::Turns;
 use crate::rules::row::{self, Row, ROW_WORDS};
@@ -46,7 +45,7 @@ struct Checked {
 }
 
 /// The text of the command, or the case at which a check fails.
-pub fn text(made: &[Made]) -> Result<String, String> {
+pub fn text<'a>(cases: impl Iterator<Item = &'a Case>) -> Result<String, String> {
     let mut checked = Checked {
         whole: 0,
         longer: 0,
@@ -56,10 +55,12 @@ pub fn text(made: &[Made]) -> Result<String, String> {
             largest_time: 1,
         },
     };
-    let plans = made.iter().enumerate();
-    for (place, made) in plans.filter(|(_, made)| made.case.call == Call::Plan) {
+    let plans = cases
+        .enumerate()
+        .filter(|(_, case)| case.call == Call::Plan);
+    for (place, case) in plans {
         let failed = |what| format!("fair fails at case {}: {}", place, what);
-        let case = PlanCase::of(&made.case).map_err(failed)?;
+        let case = PlanCase::of(case).map_err(failed)?;
         checked.check(&case).map_err(failed)?;
     }
     Ok(format!(
