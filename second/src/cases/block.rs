@@ -1,7 +1,8 @@
 //! Cases of the block records: the numbers 5, 8, 9, 10 and 11.
 
 use crate::build::load_file::LoadFile;
-use crate::cases::{three_blocks, Cases};
+use crate::build::samples::three_blocks;
+use crate::cases::Cases;
 
 pub fn add(cases: &mut Cases) {
     wrong_length_byte(cases);

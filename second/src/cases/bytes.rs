@@ -1,7 +1,8 @@
 //! One small file cut at every byte, changed at every byte, and with a byte more.
 
 use crate::build::load_file::fit_length_word;
-use crate::cases::{small_file, Cases};
+use crate::build::samples::small_file;
+use crate::cases::Cases;
 
 /// Enough for the three blocks and for two more, so that a higher block count isn't only 7.
 const WORDS: u32 = 30;

@@ -1,7 +1,8 @@
 //! The boundary examples of document 01, and files that are as full as they can be.
 
 use crate::build::load_file::LoadFile;
-use crate::cases::{e3_file, full_file, ten_bytes, Cases};
+use crate::build::samples::{e3_file, full_file, ten_bytes};
+use crate::cases::Cases;
 
 pub fn add(cases: &mut Cases) {
     small_examples(cases);

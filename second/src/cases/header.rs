@@ -1,7 +1,8 @@
 //! Cases of the header: the numbers 1, 2, 3 and 4.
 
 use crate::build::load_file::{set_length_word, LoadFile};
-use crate::cases::{small_file, ten_bytes, three_blocks, Cases};
+use crate::build::samples::{small_file, ten_bytes, three_blocks};
+use crate::cases::Cases;
 
 pub fn add(cases: &mut Cases) {
     version(cases);

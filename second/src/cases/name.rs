@@ -1,7 +1,8 @@
 //! The name call: names of the file's own, flows that aren't in the file, unsound files.
 
 use crate::build::load_file::LoadFile;
-use crate::cases::{three_blocks, Cases};
+use crate::build::samples::three_blocks;
+use crate::cases::Cases;
 
 pub fn add(cases: &mut Cases) {
     own_names(cases);

@@ -1,7 +1,8 @@
 //! The order of refusals: files with two and more faults at once, for every pair that can meet.
 
 use crate::build::load_file::LoadFile;
-use crate::cases::{three_blocks, Cases};
+use crate::build::samples::three_blocks;
+use crate::cases::Cases;
 
 pub fn add(cases: &mut Cases) {
     single_faults(cases);

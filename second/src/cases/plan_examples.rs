@@ -1,5 +1,6 @@
 //! Document 01's examples E1 to E11 and its boundary examples, as cases of the plan call.
 
+use crate::build::examples;
 use crate::build::plan_load::{PlanLoad, ALL};
 use crate::cases::Cases;
 
@@ -11,83 +12,9 @@ pub fn add(cases: &mut Cases) {
     too_many(cases);
 }
 
-/// E1.
-pub fn e1() -> PlanLoad {
-    PlanLoad::new(1, 0)
-}
-
-pub fn e2() -> PlanLoad {
-    PlanLoad::new(2, 2)
-        .block(0, 0, &[1, 3])
-        .block(1, 0, &[3, 1])
-        .block(0, 0, &[1, 3])
-        .block(1, 0, &[3, 1])
-}
-
-pub fn e3() -> PlanLoad {
-    PlanLoad::new(2, 1)
-        .block(0, 0, &[1, 10])
-        .block(0, 0, &[1, 10])
-        .block(0, 0, &[1, 10])
-}
-
-pub fn e4() -> PlanLoad {
-    let mut load = PlanLoad::new(2, 2);
-    for flow in [0, 1, 0, 1, 0, 1] {
-        load.push(flow, 0, &[1, 10]);
-    }
-    load
-}
-
-pub fn e5() -> PlanLoad {
-    let mut load = PlanLoad::new(1, 2);
-    for (flow, time) in [(0, 2), (0, 1), (0, 1), (0, 5), (1, 5), (1, 5)] {
-        load.push(flow, 0, &[time]);
-    }
-    load
-}
-
-/// E6 with 4 ticks of arrival, E7 with 5.
-pub fn e6_or_e7(arrival: u32) -> PlanLoad {
-    PlanLoad::new(1, 1)
-        .block(0, 0, &[4])
-        .block(0, arrival, &[4])
-}
-
-pub fn e8() -> PlanLoad {
-    PlanLoad::new(1, 3)
-        .block(0, 0, &[3])
-        .block(0, 0, &[3])
-        .block(1, 0, &[2])
-        .block(2, 1, &[1])
-}
-
-pub fn e9() -> PlanLoad {
-    PlanLoad::new(2, 1).block(0, 0, &[3, 3])
-}
-
-pub fn e11() -> PlanLoad {
-    PlanLoad::new(2, 2)
-        .block(1, 0, &[1, 10])
-        .block(0, 0, &[1, 10])
-        .block(0, 4, &[1, 1])
-}
-
 /// Every example under every limit that matters; E10 is E2 with n = 2 and n = 0.
 fn examples(cases: &mut Cases) {
-    let loads = [
-        e1(),
-        e2(),
-        e3(),
-        e4(),
-        e5(),
-        e6_or_e7(4),
-        e6_or_e7(5),
-        e8(),
-        e9(),
-        e11(),
-    ];
-    for load in &loads {
+    for (_, load) in &examples::all() {
         for limit in 0..=load.blocks.len() as u64 + 1 {
             cases.plan(&load.ask(limit), 0);
         }

@@ -1,7 +1,8 @@
 //! The reader's lent table: exactly enough words, too few, and more than needed; number 7.
 
 use crate::build::load_file::LoadFile;
-use crate::cases::{ten_bytes, Cases};
+use crate::build::samples::ten_bytes;
+use crate::cases::Cases;
 
 pub fn add(cases: &mut Cases) {
     room(cases);

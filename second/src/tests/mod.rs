@@ -8,7 +8,8 @@ use crate::battery::answer::{self, Answer};
 use crate::battery::case::{self, Call, Case};
 use crate::battery::count::Tally;
 use crate::build::load_file::LoadFile;
-use crate::cases::{self, e3_file, full_file, small_file, ten_bytes, Expected, Made};
+use crate::build::samples::{e3_file, full_file, small_file, ten_bytes};
+use crate::cases::{self, Expected, Made};
 use crate::rules::file::{self, Block, Counts};
 use crate::rules::name::{name, Name};
 

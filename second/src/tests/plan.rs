@@ -5,9 +5,9 @@ use crate::battery::answer::{self, planned, records_before, rows_before, MOST_WO
 use crate::battery::case::{self, Call, Case};
 use crate::battery::count::Tally;
 use crate::battery::plan_case::PlanCase;
+use crate::build::examples::{e1, e11, e2, e3, e4, e5, e6_or_e7, e8, e9};
 use crate::build::plan_load::{PlanLoad, ALL};
 use crate::cases::plan_events::EVENTS;
-use crate::cases::plan_examples::{e1, e11, e2, e3, e4, e5, e6_or_e7, e8, e9};
 use crate::cases::Made;
 use crate::checks::turns::Turns;
 use crate::rules::row::{FlowRecord, ROW_WORDS};
