@@ -105,6 +105,18 @@ pub fn make(random: &mut Random, shape: &Shape) -> PlanLoad {
     load
 }
 
+/// A random shape of so many blocks.
+pub fn any_shape(random: &mut Random, flows: usize, blocks: usize) -> Shape {
+    Shape {
+        stages: random.between(1, 4),
+        flows,
+        blocks,
+        arrivals: random.pick(&ALL_ARRIVALS),
+        times: random.pick(&ALL_TIMES),
+        owners: random.pick(&ALL_OWNERS),
+    }
+}
+
 /// A load of up to four flows in which much happens, of any number of stages.
 pub fn lively(random: &mut Random, blocks: usize) -> PlanLoad {
     let shape = Shape {
@@ -116,6 +128,44 @@ pub fn lively(random: &mut Random, blocks: usize) -> PlanLoad {
         owners: random.pick(&ALL_OWNERS),
     };
     make(random, &shape)
+}
+
+/// A load of blocks that arrive last and take longest, of so many flows by turns.
+pub fn largest(stages: usize, flows: usize, blocks: usize) -> PlanLoad {
+    let mut load = PlanLoad::new(stages, flows);
+    for place in 0..blocks {
+        let flow = (place % flows) as u32;
+        load.push(flow, LAST_ARRIVAL, &vec![LONGEST_TIME; stages]);
+    }
+    load
+}
+
+/// As many flows and blocks as a load can have.
+pub fn full_shape(stages: usize, arrivals: Arrivals, times: Times, owners: Owners) -> Shape {
+    Shape {
+        stages,
+        flows: 64,
+        blocks: 1_024,
+        arrivals,
+        times,
+        owners,
+    }
+}
+
+/// Loads of 1,024 blocks and 64 flows, each of another shape.
+pub fn full() -> Vec<PlanLoad> {
+    let mut random = Random::new(20_240_106);
+    let mut loads = vec![largest(4, 64, 1_024), largest(1, 64, 1_024)];
+    for (place, arrivals) in ALL_ARRIVALS.into_iter().enumerate() {
+        for turn in 0..4 {
+            let kind = 4 * place + turn;
+            let times = ALL_TIMES[(kind + kind / 8) % 8];
+            let owners = ALL_OWNERS[(turn + place) % 4];
+            let shape = full_shape(4 - (kind + place) % 4, arrivals, times, owners);
+            loads.push(make(&mut random, &shape));
+        }
+    }
+    loads
 }
 
 fn next_owner(random: &mut Random, shape: &Shape, place: usize, before: usize) -> usize {

@@ -6,4 +6,5 @@ pub mod load_file;
 pub mod loads;
 pub mod plan_load;
 pub mod random;
+pub mod random_files;
 pub mod samples;

@@ -12,7 +12,7 @@ pub mod plan_events;
 mod plan_examples;
 mod plan_faults;
 mod plan_limits;
-pub mod plan_shapes;
+mod plan_shapes;
 mod plan_tables;
 mod plan_ticks;
 mod plan_unfair;

@@ -2,10 +2,10 @@
 
 use crate::build::loads::{self, Arrivals, Owners, Shape, Times};
 use crate::build::loads::{ALL_ARRIVALS, ALL_OWNERS, ALL_TIMES};
-use crate::build::plan_load::{PlanLoad, ALL};
+use crate::build::plan_load::ALL;
 use crate::build::random::Random;
 use crate::cases::Cases;
-use crate::rules::file::{LAST_ARRIVAL, LONGEST_TIME};
+use crate::rules::file::LONGEST_TIME;
 
 pub fn add(cases: &mut Cases) {
     let mut random = Random::new(20_240_105);
@@ -14,30 +14,18 @@ pub fn add(cases: &mut Cases) {
     middle_loads(cases, &mut random);
     largest_numbers(cases);
     largest_ticks(cases);
-    for load in full_loads() {
+    for load in loads::full() {
         cases.plan(&load.ask(ALL), 0);
     }
     full_loads_with_limits(cases, &mut random);
     full_loads_with_a_late_fault(cases, &mut random);
 }
 
-/// A random shape of so many blocks.
-fn any_shape(random: &mut Random, flows: usize, blocks: usize) -> Shape {
-    Shape {
-        stages: random.between(1, 4),
-        flows,
-        blocks,
-        arrivals: random.pick(&ALL_ARRIVALS),
-        times: random.pick(&ALL_TIMES),
-        owners: random.pick(&ALL_OWNERS),
-    }
-}
-
 /// Loads of up to four blocks, whose rows are printed whole, with any number of flows.
 fn small_loads(cases: &mut Cases, random: &mut Random) {
     for place in 0..240 {
         let flows = random.pick(&[1, 2, 2, 3, 3, 4, 20, 64]);
-        let shape = any_shape(random, flows, 1 + place % 4);
+        let shape = loads::any_shape(random, flows, 1 + place % 4);
         cases.plan(&loads::make(random, &shape).ask(ALL), 0);
     }
 }
@@ -64,24 +52,14 @@ fn all_shapes(cases: &mut Cases, random: &mut Random) {
 fn middle_loads(cases: &mut Cases, random: &mut Random) {
     for _ in 0..40 {
         let (flows, blocks) = (random.between(2, 12), random.between(24, 60));
-        let shape = any_shape(random, flows, blocks);
+        let shape = loads::any_shape(random, flows, blocks);
         cases.plan(&loads::make(random, &shape).ask(ALL), 0);
     }
     for blocks in [100, 127, 200, 256, 300, 511, 512, 700] {
         let flows = random.between(5, 64);
-        let shape = any_shape(random, flows, blocks);
+        let shape = loads::any_shape(random, flows, blocks);
         cases.plan(&loads::make(random, &shape).ask(ALL), 0);
     }
-}
-
-/// A load of blocks that arrive last and take longest, of so many flows by turns.
-fn largest_load(stages: usize, flows: usize, blocks: usize) -> PlanLoad {
-    let mut load = PlanLoad::new(stages, flows);
-    for place in 0..blocks {
-        let flow = (place % flows) as u32;
-        load.push(flow, LAST_ARRIVAL, &vec![LONGEST_TIME; stages]);
-    }
-    load
 }
 
 /// The last arrival and the longest times, at all stages, at the first and at the last.
@@ -89,7 +67,7 @@ fn largest_numbers(cases: &mut Cases) {
     for stages in 1..=4 {
         for blocks in [1, 2, 4, 12] {
             for flows in [1, 2, 3] {
-                let all = largest_load(stages, flows, blocks);
+                let all = loads::largest(stages, flows, blocks);
                 cases.plan(&all.ask(ALL), 0);
                 let mut first = all.clone();
                 let mut last = all;
@@ -112,40 +90,13 @@ fn largest_numbers(cases: &mut Cases) {
 /// sum of dominant times go beyond 32 bits too.
 fn largest_ticks(cases: &mut Cases) {
     for (stages, blocks) in [(4, 112), (3, 167), (2, 331), (4, 1_024)] {
-        let load = largest_load(stages, 1, blocks);
+        let load = loads::largest(stages, 1, blocks);
         cases.plan(&load.ask(ALL), 0);
     }
 }
 
-fn full_shape(stages: usize, arrivals: Arrivals, times: Times, owners: Owners) -> Shape {
-    Shape {
-        stages,
-        flows: 64,
-        blocks: 1_024,
-        arrivals,
-        times,
-        owners,
-    }
-}
-
-/// Loads of 1,024 blocks and 64 flows, each of another shape.
-pub fn full_loads() -> Vec<PlanLoad> {
-    let mut random = Random::new(20_240_106);
-    let mut loads = vec![largest_load(4, 64, 1_024), largest_load(1, 64, 1_024)];
-    for (place, arrivals) in ALL_ARRIVALS.into_iter().enumerate() {
-        for turn in 0..4 {
-            let kind = 4 * place + turn;
-            let times = ALL_TIMES[(kind + kind / 8) % 8];
-            let owners = ALL_OWNERS[(turn + place) % 4];
-            let shape = full_shape(4 - (kind + place) % 4, arrivals, times, owners);
-            loads.push(loads::make(&mut random, &shape));
-        }
-    }
-    loads
-}
-
 fn full_loads_with_limits(cases: &mut Cases, random: &mut Random) {
-    let shape = full_shape(3, Arrivals::Crowded, Times::LongLast, Owners::Mixed);
+    let shape = loads::full_shape(3, Arrivals::Crowded, Times::LongLast, Owners::Mixed);
     let load = loads::make(random, &shape);
     for limit in [4, 512, 1_023] {
         cases.plan(&load.ask(limit), 0);
@@ -154,7 +105,7 @@ fn full_loads_with_limits(cases: &mut Cases, random: &mut Random) {
 
 /// The tables have to be as before even where 1,023 blocks were good.
 fn full_loads_with_a_late_fault(cases: &mut Cases, random: &mut Random) {
-    let shape = full_shape(2, Arrivals::Spread, Times::Small, Owners::ByTurns);
+    let shape = loads::full_shape(2, Arrivals::Spread, Times::Small, Owners::ByTurns);
     let mut case = loads::make(random, &shape).ask(ALL);
     case.table[6 * 1_023 + 1] = 0;
     cases.plan(&case, 11);
