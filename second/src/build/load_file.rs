@@ -1,6 +1,8 @@
 //! A builder of load files from readable parts. Left alone it makes sound files; a fault is made
 //! by setting the part that is to be wrong.
 
+use crate::build::plan_load::PlanLoad;
+
 /// The length word, a count or a length byte is worked out where it isn't set by hand.
 #[derive(Clone)]
 pub struct LoadFile {
@@ -42,6 +44,19 @@ impl LoadFile {
             blocks: Vec::new(),
             left_over: Vec::new(),
         }
+    }
+
+    /// The file of a load whose flows have these names.
+    pub fn of(load: &PlanLoad, names: &[Vec<u8>]) -> LoadFile {
+        let mut file = LoadFile::new(load.stages as u8);
+        for name in names {
+            file = file.flow(name);
+        }
+        for block in &load.blocks {
+            let times = &block.times[..load.stages];
+            file = file.block(block.flow as u16, block.arrival, times);
+        }
+        file
     }
 
     pub fn flow(mut self, name: &[u8]) -> LoadFile {

@@ -1,5 +1,5 @@
-//! What cases are built from: load files and loads, made part by part or at random,
-//! and those that several groups share.
+//! What cases and files are built from: load files and loads, made part by part or at random, and
+//! those that several groups share.
 
 pub mod examples;
 pub mod load_file;

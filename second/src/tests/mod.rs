@@ -1,7 +1,8 @@
 //! The self-tests: document 01's boundary examples as direct assertions, what the makers of the
 //! cases said against the answers, and what the case file has to contain. Those of the plan call
-//! have a file of their own.
+//! and of the printing program have files of their own.
 
+mod listing;
 mod plan;
 
 use crate::battery::answer::{self, Answer};
@@ -55,6 +56,7 @@ pub fn run() -> Result<usize, String> {
     contents(&mut checks, &made);
     case_file(&mut checks, &made);
     plan::run(&mut checks, &made);
+    listing::run(&mut checks);
     if checks.failed.is_empty() {
         return Ok(checks.done);
     }
