@@ -4,9 +4,10 @@
 use crate::build::load_file::{set_length_word, LoadFile};
 use crate::build::samples::{e3_file, full_file};
 use crate::files::Files;
-use crate::rules::listing::MOST_BYTES;
 
-const LENGTHS: [usize; 4] = [65_535, 65_536, 65_537, 70_000];
+/// The bytes that the program takes at most.
+const TAKEN: usize = 65_536;
+const LENGTHS: [usize; 4] = [TAKEN - 1, TAKEN, TAKEN + 1, 70_000];
 
 pub fn add(files: &mut Files) {
     for length in LENGTHS {
@@ -42,9 +43,9 @@ fn sound_beginning(files: &mut Files, length: usize) {
         let own = format!("{}-own-word-{}", name, length);
         files.refused(2, &own, padded(&file, length));
         let taken = format!("{}-taken-counted-{}", name, length);
-        let word = length.min(MOST_BYTES);
+        let word = length.min(TAKEN);
         files.refused(5, &taken, counted(&file, length, word));
-        if length > MOST_BYTES {
+        if length > TAKEN {
             let all = format!("{}-all-counted-{}", name, length);
             files.refused(2, &all, counted(&file, length, length));
         }
@@ -56,7 +57,7 @@ fn sound_beginning(files: &mut Files, length: usize) {
 fn faults_of_records(files: &mut Files) {
     let mut add = |number: u32, change: fn(&mut LoadFile)| {
         let file = full_file(4).with(change);
-        let bytes = counted(&file, 70_000, MOST_BYTES);
+        let bytes = counted(&file, 70_000, TAKEN);
         files.refused(number, "in-70000", bytes);
     };
     add(3, |f| f.stages = 5);

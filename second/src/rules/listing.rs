@@ -6,9 +6,9 @@ use crate::rules::plan::{self, Asked};
 use crate::rules::row::{self, Row, ROW_WORDS};
 
 /// The program takes at most so many bytes, the first ones.
-pub const MOST_BYTES: usize = 65_536;
+const MOST_BYTES: usize = 65_536;
 /// It asks for the first so many blocks.
-pub const MOST_ROWS: usize = 512;
+const MOST_ROWS: usize = 512;
 /// It has an empty standing list.
 const STANDING: &[u8] = &[];
 
