@@ -58,21 +58,16 @@ impl PlanLoad {
 
     /// The load that an accepted case asks about.
     pub fn of(case: &PlanCase) -> PlanLoad {
-        let mut load = PlanLoad::new(case.asked.stages as usize, case.asked.flows as usize);
-        let blocks = case.table.chunks_exact(BLOCK_WORDS);
-        for words in blocks.take(case.asked.blocks as usize) {
-            load.push(words[0], words[1], &words[2..]);
+        let blocks = case.table.chunks_exact(BLOCK_WORDS).map(Block::read);
+        PlanLoad {
+            stages: case.asked.stages as usize,
+            flows: case.asked.flows as usize,
+            blocks: blocks.take(case.asked.blocks as usize).collect(),
         }
-        load
     }
 
     fn table(&self) -> Vec<u32> {
-        let mut words = Vec::with_capacity(BLOCK_WORDS * self.blocks.len());
-        for block in &self.blocks {
-            words.extend_from_slice(&[block.flow, block.arrival]);
-            words.extend_from_slice(&block.times);
-        }
-        words
+        self.blocks.iter().flat_map(Block::words).collect()
     }
 
     /// All rows of the plan. Only sound loads are built here, so the call isn't refused.

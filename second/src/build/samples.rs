@@ -1,5 +1,6 @@
 //! Load files that several groups of cases and the tests share.
 
+use crate::build::examples::e3;
 use crate::build::load_file::LoadFile;
 
 /// Three flows, one of them without a name of its own, three blocks, two stages: small enough to
@@ -29,11 +30,7 @@ pub fn three_blocks(stages: u8) -> LoadFile {
 
 /// The load file of E3 with the name A.
 pub fn e3_file() -> LoadFile {
-    LoadFile::new(2)
-        .flows(&["A"])
-        .block(0, 0, &[1, 10])
-        .block(0, 0, &[1, 10])
-        .block(0, 0, &[1, 10])
+    LoadFile::of(&e3(), &[b"A".to_vec()])
 }
 
 /// As much as a load file can hold: 64 flows with names of 31 bytes and 1,024 blocks.

@@ -8,10 +8,10 @@ use crate::cases::Cases;
 use crate::checks::turns::{Turn, Turns};
 use crate::rules::row::Row;
 
-/// How many random loads of a size are tried for one case. Some events need more blocks than the
-/// smallest loads have.
-const MOST_TRIES: usize = 300;
-const MOST_BLOCKS: usize = 12;
+/// How many random loads of a size are tried for one case.
+const TRIES: usize = 300;
+/// Some events need more blocks than the smallest loads have, but none needs more than these.
+const ENOUGH_BLOCKS: usize = 12;
 
 /// Something that happens in a plan or doesn't.
 type Event = fn(&Turns) -> bool;
@@ -49,8 +49,8 @@ pub fn add(cases: &mut Cases) {
 
 /// A random load in whose plan the event happens, of so many blocks or else of a few more.
 fn seek(random: &mut Random, blocks: usize, event: Event) -> PlanLoad {
-    for more in blocks..=MOST_BLOCKS {
-        for _ in 0..MOST_TRIES {
+    for more in blocks..=ENOUGH_BLOCKS {
+        for _ in 0..TRIES {
             let load = loads::lively(random, more);
             let rows = load.rows();
             if event(&Turns::of(&load, &rows)) {

@@ -10,8 +10,8 @@ use crate::checks::plan::{self, require, Outcome};
 use crate::checks::turns::Turns;
 use crate::rules::row::{self, Row, ROW_WORDS};
 
-/// In longer loads the services aren't compared, since that would take too long.
-const MOST_BLOCKS: usize = 60;
+/// In loads of more blocks the services aren't compared, since that would take too long.
+const MOST_COMPARED: usize = 60;
 /// Two flows that wait get services that differ by at most so many times the largest time.
 const MOST_TIMES: u64 = 10;
 /// The most turns of a flow that are begun and not finished.
@@ -93,7 +93,7 @@ impl Checked {
         plan::rows(&load, &rows)?;
         let turns = Turns::of(&load, &rows);
         two_turns(&turns)?;
-        if listed > MOST_BLOCKS {
+        if listed > MOST_COMPARED {
             self.longer += 1;
             return Ok(());
         }

@@ -41,6 +41,21 @@ pub struct Block {
     pub times: [u32; MOST_STAGES],
 }
 
+impl Block {
+    pub fn words(&self) -> [u32; BLOCK_WORDS] {
+        let [one, two, three, four] = self.times;
+        [self.flow, self.arrival, one, two, three, four]
+    }
+
+    pub fn read(words: &[u32]) -> Block {
+        Block {
+            flow: words[0],
+            arrival: words[1],
+            times: [words[2], words[3], words[4], words[5]],
+        }
+    }
+}
+
 /// The counts of the header.
 #[derive(Clone, Copy, Debug, PartialEq, Eq)]
 pub struct Counts {
@@ -70,9 +85,7 @@ pub fn reader(file: &[u8], table: &mut [u32]) -> Result<Counts, Refusal> {
     let load = load(file, Some(table.len()))?;
     // Only now is it certain that nothing will be refused, so only now is the table touched.
     for (block, words) in load.blocks.iter().zip(table.chunks_mut(BLOCK_WORDS)) {
-        words[0] = block.flow;
-        words[1] = block.arrival;
-        words[2..].copy_from_slice(&block.times);
+        words.copy_from_slice(&block.words());
     }
     Ok(load.counts)
 }

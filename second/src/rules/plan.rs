@@ -59,11 +59,7 @@ fn judge_counts(asked: &Asked) -> Result<Counts, Refusal> {
 fn judge_blocks(table: &[u32], counts: &Counts) -> Result<Vec<Block>, Refusal> {
     let mut blocks: Vec<Block> = Vec::with_capacity(counts.blocks);
     for words in table.chunks_exact(BLOCK_WORDS).take(counts.blocks) {
-        let block = Block {
-            flow: words[0],
-            arrival: words[1],
-            times: [words[2], words[3], words[4], words[5]],
-        };
+        let block = Block::read(words);
         judge_block(&block, counts, blocks.last())?;
         blocks.push(block);
     }

@@ -298,7 +298,8 @@ fn contents(checks: &mut Checks, made: &[Made], plans: &[PlanCase]) {
     checks.check(full >= 25, "full loads");
 }
 
-/// Each event that loads were sought for happens in many plans.
+/// Each event that loads were sought for happens in many plans. Long ones aren't looked at, since
+/// that would take too long.
 fn events(checks: &mut Checks, plans: &[PlanCase]) {
     let mut happened = [0; EVENTS.len()];
     let whole = |case: &&PlanCase| case.asked.limit >= case.asked.blocks;
