@@ -1,4 +1,5 @@
-//! Random load files: sound ones, such with values from both sides of the limits, and changed bytes.
+//! Random load files: sound ones, ones with values from both sides of the limits, and changed
+//! bytes.
 
 use crate::build::load_file::LoadFile;
 use crate::build::random::Random;

@@ -86,7 +86,7 @@ fn around_512_blocks(files: &mut Files) {
     }
 }
 
-/// The 512th row is within a turn of many blocks: flow 1 comes into a round whose credit is 998.
+/// The 512th row is within a turn of many blocks: flow 1 comes into a round whose credit is 999.
 fn limit_within_a_turn(files: &mut Files) {
     let mut file = LoadFile::new(2).flows(&["one", "other"]);
     file = file.block(0, 0, &[999, 0]).block(0, 0, &[999, 0]);
@@ -97,7 +97,7 @@ fn limit_within_a_turn(files: &mut Files) {
 }
 
 /// The last arrival and the longest times. With one flow and four stages the ticks and the held
-/// ticks go beyond 32 bits, so the lines are as long as they can be.
+/// ticks go beyond 32 bits, and the lines are nearly as long as they can be.
 fn largest_numbers(files: &mut Files) {
     for (stages, flows, blocks) in [
         (1, 1, 1),
