@@ -2,11 +2,11 @@
 
 use std::time::Instant;
 
-use crate::answer::{records_before, rows_before};
-use crate::cases_plan_shapes::full_loads;
-use crate::plan;
-use crate::plan_case::PlanCase;
-use crate::plan_load::ALL;
+use crate::battery::answer::{records_before, rows_before};
+use crate::battery::plan_case::PlanCase;
+use crate::build::loads;
+use crate::build::plan_load::ALL;
+use crate::rules::plan;
 
 /// How often each load is planned.
 const TIMES: usize = 200;
@@ -14,7 +14,7 @@ const TIMES: usize = 200;
 /// The median over all plans, in microseconds. The tables are lent anew only once a load, since
 /// a plan doesn't depend on what they held.
 pub fn text() -> String {
-    let cases: Vec<PlanCase> = full_loads().iter().map(|load| load.ask(ALL)).collect();
+    let cases: Vec<PlanCase> = loads::full().iter().map(|load| load.ask(ALL)).collect();
     let mut nanoseconds = Vec::new();
     // The ends are printed, so that no plan can be left out as having no use.
     let mut ends = 0;

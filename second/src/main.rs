@@ -1,51 +1,45 @@
-//! The second program: it makes the file of cases for the four calls (soundness, reader, name,
-//! plan) and says, from document 01 alone, what the line of each case must be. Commands: cases,
-//! answers, count, test, fair, bench.
+//! The second program, from document 01 alone. It makes the file of cases for the four calls
+//! (soundness, reader, name, plan) and says what the line of each case must be; and it makes files
+//! for the printing program and says what that must print. Commands:
+//!
+//!   cases           the file of cases
+//!   answers         the line of each case of a file of cases, which it reads
+//!   count           how often each answer is given in a file of cases, which it reads
+//!   test            the self-tests
+//!   fair            checks what the plans of the cases promise
+//!   files FOLDER    writes the files for the printing program into a folder
+//!   listing         what has to be printed for a file, which it reads
+//!   bench           how long it takes to plan a full load
+//!
+//! The folders, of which each uses those above it:
+//!
+//!   rules      document 01's rules
+//!   battery    a case, its form in the case file, its answer and the answer's line
+//!   build      load files and loads, made part by part or at random
+//!   checks     what plans promise, checked on their rows
+//!   cases      the cases
+//!   files      the files for the printing program
+//!   tests      the self-tests
 
-mod answer;
+mod battery;
 mod bench;
-mod case;
+mod build;
 mod cases;
-mod cases_block;
-mod cases_bytes;
-mod cases_edge;
-mod cases_flow;
-mod cases_generated;
-mod cases_header;
-mod cases_name;
-mod cases_order;
-mod cases_plan_events;
-mod cases_plan_examples;
-mod cases_plan_faults;
-mod cases_plan_limits;
-mod cases_plan_shapes;
-mod cases_plan_tables;
-mod cases_plan_ticks;
-mod cases_plan_unfair;
-mod cases_standing;
-mod cases_table;
-mod count;
-mod fair;
-mod file;
-mod load_file;
-mod loads;
-mod name;
-mod plan;
-mod plan_case;
-mod plan_check;
-mod plan_load;
-mod planner;
-mod random;
-mod row;
-mod stages;
+mod checks;
+mod files;
+mod rules;
 mod tests;
-mod tests_plan;
-mod turns;
-mod waiting;
 
+use std::fs;
 use std::io::{self, BufWriter, Read, Write};
 
-use case::Case;
+use battery::case::{self, Case};
+use battery::{answer, count};
+use checks::fair;
+use rules::listing;
+
+const USE: &str =
+    "use: second cases | answers | count | test | fair | files FOLDER | listing | bench";
 
 fn main() {
     let command = std::env::args().nth(1).unwrap_or_default();
@@ -55,8 +49,10 @@ fn main() {
         "count" => write_count(),
         "test" => run_tests(),
         "fair" => check_fairness(),
+        "files" => write_files(),
+        "listing" => write_listing(),
         "bench" => write_out(bench::text().as_bytes()),
-        _ => Err("use: second cases [files] | answers | count | test | fair | bench".to_string()),
+        _ => Err(USE.to_string()),
     };
     if let Err(message) = done {
         eprintln!("second: {}", message);
@@ -72,25 +68,23 @@ fn write_out(bytes: &[u8]) -> Result<(), String> {
         .map_err(|error| format!("cannot write: {}", error))
 }
 
-/// The whole case file is read and judged before the first line is written.
-fn read_cases() -> Result<Vec<Case>, String> {
+fn read_in() -> Result<Vec<u8>, String> {
     let mut bytes = Vec::new();
     io::stdin()
         .read_to_end(&mut bytes)
         .map_err(|error| format!("cannot read: {}", error))?;
-    case::decode(&bytes)
+    Ok(bytes)
 }
 
-/// All cases, or with the word `files` after the command those of the calls on load files.
+/// The whole case file is read and judged before the first line is written.
+fn read_cases() -> Result<Vec<Case>, String> {
+    case::decode(&read_in()?)
+}
+
 fn write_cases() -> Result<(), String> {
-    let files_only = std::env::args().nth(2).as_deref() == Some("files");
     let made = cases::all();
-    let chosen: Vec<&Case> = made
-        .iter()
-        .map(|made| &made.case)
-        .filter(|case| !files_only || case.call != case::Call::Plan)
-        .collect();
-    write_out(&case::encode(&chosen))
+    let cases: Vec<&Case> = made.iter().map(|made| &made.case).collect();
+    write_out(&case::encode(&cases))
 }
 
 fn write_answers() -> Result<(), String> {
@@ -113,6 +107,24 @@ fn run_tests() -> Result<(), String> {
 }
 
 fn check_fairness() -> Result<(), String> {
-    let text = fair::text(&cases::all())?;
+    let made = cases::all();
+    let text = fair::text(made.iter().map(|made| &made.case))?;
     write_out(text.as_bytes())
+}
+
+/// The files for the printing program, into a folder that is there; their names begin with their
+/// number, from 1.
+fn write_files() -> Result<(), String> {
+    let folder = std::env::args().nth(2).ok_or(USE)?;
+    for (place, file) in files::all().iter().enumerate() {
+        let path = format!("{}/{:03}-{}.load", folder, place + 1, file.name);
+        fs::write(&path, &file.bytes)
+            .map_err(|error| format!("cannot write {}: {}", path, error))?;
+    }
+    Ok(())
+}
+
+/// What the printing program has to print for this input.
+fn write_listing() -> Result<(), String> {
+    write_out(listing::text(&read_in()?).as_bytes())
 }
