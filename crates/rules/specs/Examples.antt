@@ -430,6 +430,28 @@ arrival-at-the-finish = record {
   counts = 3 ∷ 3 ∷ 2 ∷ 0 ∷ 0 ∷ 9 ∷ [];
 }
 
+-- A hold of one tick is a hold.
+unfoldable pub held-one-tick : Example
+held-one-tick = record {
+  stages = 2;
+  flows = 1;
+  blocks =
+      (0 ∷ 0 ∷ 1 ∷ 2 ∷ 0 ∷ 0 ∷ [])
+      ∷ (0 ∷ 0 ∷ 1 ∷ 2 ∷ 0 ∷ 0 ∷ [])
+      ∷ (0 ∷ 0 ∷ 1 ∷ 2 ∷ 0 ∷ 0 ∷ [])
+      ∷ [];
+  limit = 18446744073709551615;
+  rows =
+      (0 ∷ 0 ∷ 1 ∷ 1 ∷ 0 ∷ 0 ∷ 2 ∷ 0 ∷ 1 ∷ 1 ∷ 3 ∷ 0 ∷ 0 ∷ 0 ∷ 0 ∷ [])
+      ∷ (1 ∷ 0 ∷ 2 ∷ 2 ∷ 0 ∷ 0 ∷ 2 ∷ 1 ∷ 2 ∷ 3 ∷ 5 ∷ 0 ∷ 0 ∷ 0 ∷ 0 ∷ [])
+      ∷ (2 ∷ 0 ∷ 3 ∷ 3 ∷ 0 ∷ 1 ∷ 2 ∷ 3 ∷ 4 ∷ 5 ∷ 7 ∷ 0 ∷ 0 ∷ 0 ∷ 0 ∷ [])
+      ∷ [];
+  records =
+      (3 ∷ 3 ∷ 6 ∷ [])
+      ∷ [];
+  counts = 3 ∷ 3 ∷ 3 ∷ 1 ∷ 1 ∷ 7 ∷ [];
+}
+
 -- The planner runs empty and goes on at the next arrival; the excess of a flow that left is forgotten.
 unfoldable pub idle-again : Example
 idle-again = record {
@@ -516,7 +538,7 @@ four-stages = record {
 
 unfoldable pub examples : List Example
 examples =
-    E1 ∷ E2 ∷ E3 ∷ E4 ∷ E5 ∷ E6 ∷ E7 ∷ E8 ∷ E9 ∷ E10 ∷ E10-none ∷ E11 ∷ zero-goes-on ∷ excess-of-the-round-before ∷ arrival-at-the-finish ∷ idle-again ∷ three-stages ∷ four-stages ∷ []
+    E1 ∷ E2 ∷ E3 ∷ E4 ∷ E5 ∷ E6 ∷ E7 ∷ E8 ∷ E9 ∷ E10 ∷ E10-none ∷ E11 ∷ zero-goes-on ∷ excess-of-the-round-before ∷ arrival-at-the-finish ∷ held-one-tick ∷ idle-again ∷ three-stages ∷ four-stages ∷ []
 
 -- any counts, with so many of the 24 words of E2's blocks
 unfoldable pub asked : ℕ → ℕ → ℕ → ℕ → Load
