@@ -8,21 +8,20 @@ use borrow.Author.Tests.{eqb-false, eqb-true}
 use lib.Dec.{eqb}
 use lib.ListN.{drop, length}
 use Rattle.load.specs.declared.counts.Counts.{Counts}
-use Rattle.load.specs.declared.refusal.Verdict.{Verdict}
 use Rattle.load.specs.declared.refusal.Verdict.the-variants as verdict
 use Rattle.load.specs.Dominant.{dominantTime}
-use Rattle.load.proofs.Accepted.{number-above}
 use Rattle.load.proofs.Cases.{cases}
 use Rattle.rules.specs.declared.answer.Planned.{Planned}
 use Rattle.rules.specs.declared.record.FlowRecord.{FlowRecord}
 use Rattle.rules.specs.declared.row.Row.{Row}
-use Rattle.rules.specs.Calls.{answerNumber, answerOf, Plans, planVerdict, rowsAfter}
+use Rattle.rules.specs.Calls.{answerNumber, Plans, planVerdict}
 use Rattle.rules.specs.Fairness.{Fair, largestOf, largestTime}
 use Rattle.rules.specs.Load.{blockAt, Load, loadOf}
 use Rattle.rules.specs.Plan.{plan}
 use Rattle.rules.specs.Rows.{rowAt, rowsIn, rowsWords, rowWords, wayWords}
 use Rattle.rules.proofs.Accepting.{accepted, sorted, stage-there}
 use Rattle.rules.proofs.Fair.{origin-fair}
+use Rattle.rules.proofs.Refusing.{plan-accepts}
 use Rattle.rules.proofs.Starts.{Sound}
 use Rattle.rules.proofs.Turns.{origin-turns}
 use Rattle.rules.proofs.Whole.{plan-length}
@@ -68,13 +67,8 @@ rows-back (r ∷ rs) (suc k) more h = ap (λ (l : List Row). r ∷ l) (rows-back
 -- the words that the plan call leaves
 pub call-fair : (c : Counts) (n : ℕ) (table : List ℕ) (flows : List FlowRecord) (rows : List ℕ) (answer : Planned) (flowsThen : List FlowRecord) (rowsThen : List ℕ)
     → Plans c n table flows rows answer flowsThen rowsThen → answerNumber answer ≡ 0 → c .blocks ≤ n → Fair (loadOf c table) (rowsIn (c .blocks) rowsThen)
-unfolding answerOf rowsAfter
 call-fair c n table flows rows answer flowsThen rowsThen p is-0 all =
-    go (planVerdict c n table (length flows) (length rows)) refl (p .answers) (p .rows-left) where
-      go : (v : Verdict) → planVerdict c n table (length flows) (length rows) ≡ v → answer ≡ answerOf c n table v → rowsThen ≡ rowsAfter c n table rows v
-          → Fair (loadOf c table) (rowsIn (c .blocks) rowsThen)
-      go (verdict.Refused r) is a t = absurd (omega (arith, number-above r, rw a at is-0))
-      go verdict.Accepted is a t =
-          let rs = plan (loadOf c table) n in
-          let left = rows-back rs (c .blocks) (drop (15 * length rs) rows) (omega (arith, plan-length c n table (length flows) (length rows) is)) in
-          rw t (subst (Fair (loadOf c table)) (sym left) (plan-fair c n table (length flows) (length rows) is))
+    let lists = plan-accepts c n table flows rows answer flowsThen rowsThen p is-0 in
+    let rs = plan (loadOf c table) n in
+    let left = rows-back rs (c .blocks) (drop (15 * length rs) rows) (omega (arith, plan-length c n table (length flows) (length rows) (lists .accepted))) in
+    rw (lists .rows-left) (subst (Fair (loadOf c table)) (sym left) (plan-fair c n table (length flows) (length rows) (lists .accepted)))
