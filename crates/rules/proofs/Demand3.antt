@@ -1,7 +1,7 @@
 -- Demand 3: the whole plan of every load that the plan call accepts is fair, and so are the rows that the call leaves in the row
 -- table where it answers 0 with a limit that covers all blocks. (`Fair` has the bound, `Turns` the two-turn limit.) Those rows are
 -- the plan's (`call-rows`), each block of the load once (`call-each-block`), so nothing that the load has is left out.
-use Prim.Native.Nat.{ℕ, zero, suc, _+_, _*_, _≤_, _<_, min}
+use Prim.Native.Nat.{ℕ, zero, suc, _*_, _≤_, _<_, min}
 use mathlib.Core.List.{List, [], _∷_, _++_}
 use mathlib.Core.Path.{_≡_, refl, ap}
 use native.Mathlib.Omega.{arith}
