@@ -11,10 +11,11 @@ fn sound(file: &[u8]) {
     let mut out = line::empty();
     let at = line::text(&mut out, 0, b"sound ");
     let at = line::decimal(&mut out, at, load::refusal::number(loadfile::sound(file)));
-    line::end(&mut out, at);
+    let end = line::end(&mut out, at);
+    line::write(&out, end);
 }
 
-fn put_answer(out: &mut line::Line, answer: Answer) -> usize {
+fn put_answer(out: &mut line::Page, answer: Answer) -> usize {
     match answer {
         Answer::Refused(why) => {
             let at = line::text(out, 0, b"read ");
@@ -36,7 +37,8 @@ fn reader(file: &[u8], table: &mut [u32]) {
     let mut out = line::empty();
     let at = put_answer(&mut out, answer);
     let at = table::put(&mut out, at, table);
-    line::end(&mut out, at);
+    let end = line::end(&mut out, at);
+    line::write(&out, end);
 }
 
 fn name<'a>(file: &'a [u8], standing: &'a [u8], flow: usize) {
@@ -44,7 +46,8 @@ fn name<'a>(file: &'a [u8], standing: &'a [u8], flow: usize) {
     let mut out = line::empty();
     let at = line::text(&mut out, 0, b"name ");
     let at = line::hex(&mut out, at, part);
-    line::end(&mut out, at);
+    let end = line::end(&mut out, at);
+    line::write(&out, end);
 }
 
 // Makes the case's call, with tables of just the words that it asks for. It answers false where there are fewer.

@@ -7,10 +7,12 @@ mod table;
 mod words;
 
 use head::Next;
-use libc::STDOUT_FILENO;
 
 fn bad_case() {
-    io::write_all(STDOUT_FILENO, b"bad case\n");
+    let mut out = line::empty();
+    let at = line::text(&mut out, 0, b"bad case");
+    let end = line::end(&mut out, at);
+    line::write(&out, end);
 }
 
 // Reads and runs the next case, and answers whether to go on.

@@ -56,7 +56,7 @@ fn fill(table: &mut [u32], bytes: &[u8])
     }
 }
 
-fn put_planned(out: &mut line::Line, planned: Planned) -> usize {
+fn put_planned(out: &mut line::Page, planned: Planned) -> usize {
     match planned {
         Planned::Refused(why) => {
             let at = line::text(out, 0, b"plan ");
@@ -85,7 +85,8 @@ pub fn put(planned: Planned, flows: Flows, n: usize, rows: &[u64])
     let at = put_planned(&mut out, planned);
     let at = words::put(&mut out, at, &words[0..3 * n]);
     let at = words::put(&mut out, at, rows);
-    line::end(&mut out, at);
+    let end = line::end(&mut out, at);
+    line::write(&out, end);
 }
 
 // Lends the plan call the first n records. A function that lends records is proved by hand: it takes them by value, so that
