@@ -1,4 +1,4 @@
-// A case after its head: its parts are read, its call is made, and its line is written.
+// A case after its head: its parts are read, its call is made, and its line is put on the page.
 use crate::head::Call;
 use crate::head::Head;
 use crate::planned;
@@ -7,14 +7,12 @@ use libc::STDIN_FILENO;
 use load::refusal::Verdict;
 use loadfile::Answer;
 
-fn sound(file: &[u8]) {
-    let mut out = line::empty();
-    let at = line::text(&mut out, 0, b"sound ");
-    let at = line::decimal(&mut out, at, load::refusal::number(loadfile::sound(file)));
-    line::end(&mut out, at);
+fn sound(out: &mut line::Page, file: &[u8]) -> usize {
+    let at = line::text(out, 0, b"sound ");
+    line::decimal(out, at, load::refusal::number(loadfile::sound(file)))
 }
 
-fn put_answer(out: &mut line::Line, answer: Answer) -> usize {
+fn put_answer(out: &mut line::Page, answer: Answer) -> usize {
     match answer {
         Answer::Refused(why) => {
             let at = line::text(out, 0, b"read ");
@@ -30,43 +28,39 @@ fn put_answer(out: &mut line::Line, answer: Answer) -> usize {
     }
 }
 
-fn reader(file: &[u8], table: &mut [u32]) {
+fn reader(out: &mut line::Page, file: &[u8], table: &mut [u32]) -> usize {
     table::mark(table);
     let answer = loadfile::read(file, table);
-    let mut out = line::empty();
-    let at = put_answer(&mut out, answer);
-    let at = table::put(&mut out, at, table);
-    line::end(&mut out, at);
+    let at = put_answer(out, answer);
+    table::put(out, at, table)
 }
 
-fn name<'a>(file: &'a [u8], standing: &'a [u8], flow: usize) {
+fn name<'a>(out: &mut line::Page, file: &'a [u8], standing: &'a [u8], flow: usize) -> usize {
     let part = loadfile::name(file, standing, flow);
-    let mut out = line::empty();
-    let at = line::text(&mut out, 0, b"name ");
-    let at = line::hex(&mut out, at, part);
-    line::end(&mut out, at);
+    let at = line::text(out, 0, b"name ");
+    line::hex(out, at, part)
 }
 
-// Makes the case's call, with tables of just the words that it asks for. It answers false where there are fewer.
+// Makes the case's call, with tables of just the words that it asks for. It answers 0 where there are fewer.
 fn run<'a>(
+    out: &mut line::Page,
     call: Call,
     file: &'a [u8],
     standing: &'a [u8],
     table: &mut [u32],
     rows: &mut [u64],
-) -> bool {
+) -> usize {
     match call {
-        Call::Sound => sound(file),
+        Call::Sound => sound(out, file),
         Call::Read(words) => {
             if table.len() < words {
-                return false;
+                return 0;
             }
-            reader(file, &mut table[0..words]);
+            reader(out, file, &mut table[0..words])
         }
-        Call::Name(flow) => name(file, standing, flow),
-        Call::Plan => return planned::run(standing, file, table, rows),
+        Call::Name(flow) => name(out, file, standing, flow),
+        Call::Plan => planned::run(out, standing, file, table, rows),
     }
-    true
 }
 
 fn fill(part: &mut [u8]) -> bool {
@@ -74,40 +68,44 @@ fn fill(part: &mut [u8]) -> bool {
 }
 
 fn fill_and_run(
+    out: &mut line::Page,
     call: Call,
     file: &mut [u8],
     standing: &mut [u8],
     table: &mut [u32],
     rows: &mut [u64],
-) -> bool {
+) -> usize {
     if !fill(standing) {
-        return false;
+        return 0;
     }
     if !fill(file) {
-        return false;
+        return 0;
     }
-    run(call, file, standing, table, rows)
+    run(out, call, file, standing, table, rows)
 }
 
-// Reads what follows the head, and runs the case on parts of just the lengths that the head gives. It answers false where
-// the case is malformed: a part is longer than the room for it, the input ends inside, or a plan's parameters are wrong.
+// Reads what follows the head, and runs the case on parts of just the lengths that the head gives. It answers the length of
+// the case's line, or 0 where the case is malformed: a part is longer than the room for it, the input ends inside, or a
+// plan's parameters are wrong.
 pub fn finish(
+    out: &mut line::Page,
     head: Head,
     file: &mut [u8],
     standing: &mut [u8],
     table: &mut [u32],
     rows: &mut [u64],
-) -> bool {
+) -> usize {
     let call = head.call;
     let file_end = head.file;
     let standing_end = head.standing;
     if file.len() < file_end {
-        return false;
+        return 0;
     }
     if standing.len() < standing_end {
-        return false;
+        return 0;
     }
     fill_and_run(
+        out,
         call,
         &mut file[0..file_end],
         &mut standing[0..standing_end],

@@ -56,7 +56,7 @@ fn fill(table: &mut [u32], bytes: &[u8])
     }
 }
 
-fn put_planned(out: &mut line::Line, planned: Planned) -> usize {
+fn put_planned(out: &mut line::Page, planned: Planned) -> usize {
     match planned {
         Planned::Refused(why) => {
             let at = line::text(out, 0, b"plan ");
@@ -75,42 +75,53 @@ fn put_planned(out: &mut line::Line, planned: Planned) -> usize {
     }
 }
 
-// Writes the case's line: the answer, the records lent and the rows.
-pub fn put(planned: Planned, flows: Flows, n: usize, rows: &[u64])
+// The case's line: the answer, the records lent and the rows.
+fn put(out: &mut line::Page, planned: Planned, flows: Flows, n: usize, rows: &[u64]) -> usize
     requires { ⌜ n ≤ 128 ⌝ }
 {
     let all = records::words(flows);
     let words: &[u64] = &all;
-    let mut out = line::empty();
-    let at = put_planned(&mut out, planned);
-    let at = words::put(&mut out, at, &words[0..3 * n]);
-    let at = words::put(&mut out, at, rows);
-    line::end(&mut out, at);
+    let at = put_planned(out, planned);
+    let at = words::put(out, at, &words[0..3 * n]);
+    words::put(out, at, rows)
 }
 
-// Lends the plan call the first n records. A function that lends records is proved by hand: it takes them by value, so that
-// no other function lends them.
-fn call(mut flows: Flows, n: usize, counts: Counts, limit: u64, table: &[u32], rows: &mut [u64])
+// What the plan call answers, and the records as it leaves them.
+struct Called {
+    planned: Planned,
+    flows: Flows,
+}
+
+// Lends the plan call the first n records. A function that lends records is proved by hand: it takes them by value and gives
+// them back, so that no other function lends them.
+fn call(
+    mut flows: Flows,
+    n: usize,
+    counts: Counts,
+    limit: u64,
+    table: &[u32],
+    rows: &mut [u64],
+) -> Called
     requires { ⌜ n ≤ 128 ⌝ }
 {
     let planned = mr3::plan(counts, limit, table, &mut flows[..n], rows);
-    put(planned, flows, n, rows);
+    Called { planned, flows }
 }
 
-// Lends just the records and the words that the parameters give. It answers false where there are fewer.
-fn lend(given: Parameters, table: &[u32], rows: &mut [u64]) -> bool {
+// Lends just the records and the words that the parameters give. It answers 0 where there are fewer.
+fn lend(out: &mut line::Page, given: Parameters, table: &[u32], rows: &mut [u64]) -> usize {
     let counts = given.counts;
     let flow_records = given.flow_records;
     let row_words = given.row_words;
     if 128 < flow_records {
-        return false;
+        return 0;
     }
     if rows.len() < row_words {
-        return false;
+        return 0;
     }
     let lent = &mut rows[0..row_words];
     words::mark(lent, 6_000_000_000);
-    call(
+    let called = call(
         records::marked(),
         flow_records,
         counts,
@@ -118,22 +129,30 @@ fn lend(given: Parameters, table: &[u32], rows: &mut [u64]) -> bool {
         table,
         lent,
     );
-    true
+    let planned = called.planned;
+    let flows = called.flows;
+    put(out, planned, flows, flow_records, lent)
 }
 
-// Runs the case. It answers false where the parameters aren't 40 bytes, the block table isn't whole words, or there is no
+// Runs the case, and answers the length of its line, or 0 where the parameters aren't 40 bytes, the block table isn't whole words, or there is no
 // room for a table.
-pub fn run(given: &[u8], blocks: &[u8], table: &mut [u32], rows: &mut [u64]) -> bool {
+pub fn run(
+    out: &mut line::Page,
+    given: &[u8],
+    blocks: &[u8],
+    table: &mut [u32],
+    rows: &mut [u64],
+) -> usize {
     if given.len() != 40 {
-        return false;
+        return 0;
     }
     let block_words = blocks.len() / 4;
     if blocks.len() % 4 != 0 {
-        return false;
+        return 0;
     }
     if table.len() < block_words {
-        return false;
+        return 0;
     }
     fill(&mut table[0..block_words], blocks);
-    lend(read_parameters(given), &table[0..block_words], rows)
+    lend(out, read_parameters(given), &table[0..block_words], rows)
 }

@@ -25,7 +25,7 @@ fn digest(table: &[u32]) -> u64 {
     h
 }
 
-fn words(out: &mut line::Line, at: usize, table: &[u32]) -> usize {
+fn words(out: &mut line::Page, at: usize, table: &[u32]) -> usize {
     let mut end = at;
     for i in 0..table.len() {
         end = line::spaced(out, end, wide(table[i]));
@@ -34,7 +34,7 @@ fn words(out: &mut line::Line, at: usize, table: &[u32]) -> usize {
 }
 
 // All words of a short table, or the digest of a long one.
-pub fn put(out: &mut line::Line, at: usize, table: &[u32]) -> usize {
+pub fn put(out: &mut line::Page, at: usize, table: &[u32]) -> usize {
     if table.len() <= 60 {
         return words(out, at, table);
     }

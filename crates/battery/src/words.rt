@@ -34,7 +34,7 @@ fn digest(table: &[u64]) -> u64 {
     h
 }
 
-fn all(out: &mut line::Line, at: usize, table: &[u64]) -> usize {
+fn all(out: &mut line::Page, at: usize, table: &[u64]) -> usize {
     let mut end = at;
     for i in 0..table.len() {
         end = line::spaced(out, end, table[i]);
@@ -43,7 +43,7 @@ fn all(out: &mut line::Line, at: usize, table: &[u64]) -> usize {
 }
 
 // A bar, and all words of a short table, or the digest of a long one.
-pub fn put(out: &mut line::Line, at: usize, table: &[u64]) -> usize {
+pub fn put(out: &mut line::Page, at: usize, table: &[u64]) -> usize {
     let bar = line::text(out, at, b" |");
     if table.len() <= 60 {
         return all(out, bar, table);

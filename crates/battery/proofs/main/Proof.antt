@@ -4,10 +4,10 @@ use Rattle.battery.proofs.main.Statement.{statement}
 use Rattle.battery.proofs.main.Tie as tie
 
 abbrev Inv-loop : tie.InvT-loop
-Inv-loop file₀ standing₀ table₀ rows₀ turns₀ file standing table rows turns = Unit {0}
+Inv-loop out₀ file₀ standing₀ table₀ rows₀ turns₀ out file standing table rows turns = Unit {0}
 
 abbrev μ-loop : tie.MeasureT-loop
-μ-loop file₀ standing₀ table₀ rows₀ turns₀ file standing table rows turns = turns
+μ-loop out₀ file₀ standing₀ table₀ rows₀ turns₀ out file standing table rows turns = turns
 
 pub main-spec : {M : Type 1} → statement M
 main-spec =
@@ -15,6 +15,7 @@ main-spec =
     (tie.spec
     Inv-loop
     μ-loop
+    (λ c κs. search needs)
     (λ c. search needs)
     (λ c. search needs)
     (λ c. search needs)

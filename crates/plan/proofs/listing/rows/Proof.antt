@@ -9,10 +9,10 @@ use Rattle.plan.proofs.listing.rows.Statement.{statement}
 use Rattle.plan.proofs.listing.rows.Tie as tie
 
 abbrev Inv-loop : tie.InvT-loop
-Inv-loop file stages blocks table at₀ left₀ at left = (at ≤ length table)
+Inv-loop out₀ at file stages blocks table end₀ from₀ left₀ out end from left = (from ≤ length table)
 
 abbrev μ-loop : tie.MeasureT-loop
-μ-loop file stages blocks table at₀ left₀ at left = left
+μ-loop out₀ at file stages blocks table end₀ from₀ left₀ out end from left = left
 
 pub rows-spec : {M : Type 1} → statement M
 rows-spec =
