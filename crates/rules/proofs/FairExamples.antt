@@ -100,14 +100,16 @@ pub record Edges : Type 0 where
   pub served-1 : map (λ t. service 1 t 7 (rowsOf table.E2)) (0 ∷ 1 ∷ 2 ∷ 4 ∷ 5 ∷ 6 ∷ 7 ∷ []) ≡ 5 ∷ 5 ∷ 4 ∷ 2 ∷ 2 ∷ 1 ∷ 0 ∷ []
   -- E5: the first blocks take 2, 1, 1, 5
   pub largest : map (largestOf (blocksOf table.E5)) (0 ∷ 1 ∷ 3 ∷ 4 ∷ []) ≡ 0 ∷ 2 ∷ 2 ∷ 5 ∷ []
+  -- all blocks of E5, and E3, whose blocks are (1,10)
+  pub largest-all : map (λ e. largestTime (table.loadOf e)) (table.E5 ∷ table.E3 ∷ []) ≡ 5 ∷ 10 ∷ []
   -- E3: three turns, from 0 up to 11, from 1 up to 21 and from 11 up to 31
   pub open-E3 : map (λ t. openTurns 2 0 t 0 (rowsOf table.E3)) (0 ∷ 1 ∷ 10 ∷ 11 ∷ 20 ∷ 21 ∷ 30 ∷ 31 ∷ []) ≡ 1 ∷ 2 ∷ 2 ∷ 2 ∷ 2 ∷ 1 ∷ 1 ∷ 0 ∷ []
   -- three stages: a turn from 5 up to 22, whose first of two blocks finishes at 16, and one from 14 up to 32; no turn of the other flow counts
   pub open-three : map (λ t. openTurns 3 0 t 0 (rowsOf table.three-stages)) (4 ∷ 5 ∷ 13 ∷ 14 ∷ 16 ∷ 21 ∷ 22 ∷ 31 ∷ 32 ∷ []) ≡ 0 ∷ 1 ∷ 1 ∷ 2 ∷ 2 ∷ 2 ∷ 1 ∷ 1 ∷ 0 ∷ []
 
 pub edges : Edges
-unfolding rowsOf table.E2 table.E3 table.E5 table.E11 table.three-stages table.joined table.loadOf waitsOver waitsAt blockWaits openTurns turnEnd one largestOf service servedBy ticksWithin blockAt blockOf seek dominantStage dominantTime called noted opened used after arrivals arrived begins begun busy first further heldUntil none-yet oldest onward origin plan readied rejoined rowOf rowsFrom run settled spent started state step taken tested turnOf upTo waits where-waits withLine withRound woken lastRun laterRun runAt wayOf listed
-edges = record { waits = refl; waits-other = refl; waits-over = refl; served-0 = refl; served-1 = refl; largest = refl; open-E3 = refl; open-three = refl }
+unfolding rowsOf table.E2 table.E3 table.E5 table.E11 table.three-stages table.joined table.loadOf waitsOver waitsAt blockWaits openTurns turnEnd one largestOf largestTime service servedBy ticksWithin blockAt blockOf seek dominantStage dominantTime called noted opened used after arrivals arrived begins begun busy first further heldUntil none-yet oldest onward origin plan readied rejoined rowOf rowsFrom run settled spent started state step taken tested turnOf upTo waits where-waits withLine withRound woken lastRun laterRun runAt wayOf listed
+edges = record { waits = refl; waits-other = refl; waits-over = refl; served-0 = refl; served-1 = refl; largest = refl; largest-all = refl; open-E3 = refl; open-three = refl }
 
 -- so it waits from 4 up to but without 11, and not from 3 on
 pub waits-from-4 : WaitsFrom (blocksOf table.E11) 0 4 11 (rowsOf table.E11)

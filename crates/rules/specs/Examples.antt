@@ -4,7 +4,7 @@ use Prim.Native.Nat.{ℕ, zero, suc, _+_, _*_}
 use mathlib.Core.Bool.{Bool, true, false, _&&_}
 use mathlib.Core.List.{List, [], _∷_, _++_}
 use lib.Dec.{eqb}
-use lib.ListN.{length, take}
+use lib.ListN.{length, replicate, take}
 use Rattle.load.specs.declared.counts.Counts.{Counts}
 use Rattle.load.specs.declared.refusal.Verdict.{Verdict}
 use Rattle.rules.specs.declared.answer.Planned.{Planned}
@@ -453,6 +453,26 @@ held-one-tick = record {
   counts = 3 ∷ 3 ∷ 3 ∷ 1 ∷ 1 ∷ 7 ∷ [];
 }
 
+-- E3 for the last of 64 flows.
+unfoldable pub last-of-64 : Example
+last-of-64 = record {
+  stages = 2;
+  flows = 64;
+  blocks =
+      (63 ∷ 0 ∷ 1 ∷ 10 ∷ 0 ∷ 0 ∷ [])
+      ∷ (63 ∷ 0 ∷ 1 ∷ 10 ∷ 0 ∷ 0 ∷ [])
+      ∷ (63 ∷ 0 ∷ 1 ∷ 10 ∷ 0 ∷ 0 ∷ [])
+      ∷ [];
+  limit = 18446744073709551615;
+  rows =
+      (0 ∷ 63 ∷ 1 ∷ 1 ∷ 0 ∷ 0 ∷ 2 ∷ 0 ∷ 1 ∷ 1 ∷ 11 ∷ 0 ∷ 0 ∷ 0 ∷ 0 ∷ [])
+      ∷ (1 ∷ 63 ∷ 2 ∷ 2 ∷ 0 ∷ 0 ∷ 2 ∷ 1 ∷ 2 ∷ 11 ∷ 21 ∷ 0 ∷ 0 ∷ 0 ∷ 0 ∷ [])
+      ∷ (2 ∷ 63 ∷ 3 ∷ 3 ∷ 0 ∷ 9 ∷ 2 ∷ 11 ∷ 12 ∷ 21 ∷ 31 ∷ 0 ∷ 0 ∷ 0 ∷ 0 ∷ [])
+      ∷ [];
+  records = replicate 63 (0 ∷ 0 ∷ 0 ∷ []) ++ ((3 ∷ 3 ∷ 30 ∷ []) ∷ []);
+  counts = 3 ∷ 3 ∷ 3 ∷ 1 ∷ 9 ∷ 31 ∷ [];
+}
+
 -- The planner runs empty and goes on at the next arrival; the excess of a flow that left is forgotten.
 unfoldable pub idle-again : Example
 idle-again = record {
@@ -539,7 +559,7 @@ four-stages = record {
 
 unfoldable pub examples : List Example
 examples =
-    E1 ∷ E2 ∷ E3 ∷ E4 ∷ E5 ∷ E6 ∷ E7 ∷ E8 ∷ E9 ∷ E10 ∷ E10-none ∷ E11 ∷ zero-goes-on ∷ excess-of-the-round-before ∷ arrival-at-the-finish ∷ held-one-tick ∷ idle-again ∷ three-stages ∷ four-stages ∷ []
+    E1 ∷ E2 ∷ E3 ∷ E4 ∷ E5 ∷ E6 ∷ E7 ∷ E8 ∷ E9 ∷ E10 ∷ E10-none ∷ E11 ∷ zero-goes-on ∷ excess-of-the-round-before ∷ arrival-at-the-finish ∷ held-one-tick ∷ last-of-64 ∷ idle-again ∷ three-stages ∷ four-stages ∷ []
 
 -- any counts, with so many of the 24 words of E2's blocks
 unfoldable pub asked : ℕ → ℕ → ℕ → ℕ → Load
