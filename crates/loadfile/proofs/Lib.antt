@@ -1,4 +1,5 @@
 pub mod Body
+pub mod Examples
 pub mod Files
 pub mod Filling
 pub mod Names
