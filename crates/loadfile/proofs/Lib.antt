@@ -2,6 +2,7 @@ pub mod Body
 pub mod Files
 pub mod Filling
 pub mod Names
+pub mod Passed
 pub mod Records
 pub mod Refusing
 pub mod Shown
