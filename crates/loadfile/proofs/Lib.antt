@@ -4,6 +4,7 @@ pub mod Files
 pub mod Filling
 pub mod Names
 pub mod Parts
+pub mod Passed
 pub mod Records
 pub mod Refusing
 pub mod Shown

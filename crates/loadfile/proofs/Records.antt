@@ -31,9 +31,9 @@ unfolding stopIf
 stop-passed true r w at e = let z : _≡_ {A = ℕ} 0 1 = cc in absurd (omega arith)
 stop-passed false r w at e = (refl, e)
 
-unless-passed : {A : Type 0} (v : Verdict) (p : Parsed A) (a : A) (at : ℕ) → unless v p ≡ parsed a at → p ≡ parsed a at
+pub unless-passed : {A : Type 0} (v : Verdict) (p : Parsed A) (a : A) (at : ℕ) → unless v p ≡ parsed a at → (v ≡ Accepted) × (p ≡ parsed a at)
 unfolding unless
-unless-passed Accepted p a at e = e
+unless-passed Accepted p a at e = (refl, e)
 unless-passed (Refused r) p a at e = let z : _≡_ {A = ℕ} 0 1 = cc in absurd (omega arith)
 
 -- a record that is measured has its length byte, between the bounds, and lies within the bytes given
@@ -65,7 +65,7 @@ block-record-reads c above rest b size e = go (measure (6 + 4 * c .stages) (6 + 
   go : (w : Walk) → measure (6 + 4 * c .stages) (6 + 4 * c .stages) rest ≡ w → blockMeasured c above rest w ≡ parsed b size → (size ≡ 7 + 4 * c .stages) × (size ≤ length rest) × (b ≡ blockIn (c .stages) rest)
   go (Stopped r) m e = let z : _≡_ {A = ℕ} 0 1 = cc in absurd (omega arith)
   go (At next) m e =
-      let read : parsed (blockIn (c .stages) rest) next ≡ parsed b size = unless-passed _ _ _ _ e in
+      let read : parsed (blockIn (c .stages) rest) next ≡ parsed b size = unless-passed _ _ _ _ e .1 in
       let same : next ≡ size = cc in
       let within = measure-within _ _ _ _ m in
       (omega arith, omega arith, cc)

@@ -1,0 +1,5 @@
+pub mod Accepting
+pub mod Asking
+pub mod Examples
+pub mod Fitting
+pub mod Reading
