@@ -6,7 +6,7 @@ use mathlib.Core.Option.{none as nothing, Option, some}
 use mathlib.Core.Path.{_≡_}
 use native.Mathlib.Omega.{arith}
 use lib.Dec.{leb}
-use lib.ListN.{length, length-append, take}
+use lib.ListN.{length, length-append}
 use Rattle.load.specs.declared.counts.Counts.{Counts}
 use Rattle.load.specs.declared.refusal.Refusal.{Refusal}
 use Rattle.load.specs.Refusals.{numberOf}
@@ -23,7 +23,7 @@ use Rattle.rules.specs.Plan.{origin, plan, rowsFrom, run, Started, State, step}
 use Rattle.line.specs.Pages.{Put, room}
 use Rattle.line.proofs.Digits.{decimal-length}
 use Rattle.line.proofs.Pages.{put-whole}
-use Rattle.listing.specs.Listing.{countsLine, listing, listingOf, planLines, refusedLine, rowLine, rowLines, runs, shown, startFinish}
+use Rattle.listing.specs.Listing.{Makes, countsLine, listing, listingOf, planLines, refusedLine, rowLine, rowLines, runs, shown, startFinish}
 
 counts-short : (s : Summary) → length (countsLine s) ≤ 126
 unfolding countsLine
@@ -79,13 +79,13 @@ plan-short file c table =
     simp length-append
     (omega (arith, counts-short (summary (c .stages) none rs), rows-short file (c .stages) rs, run-few (loadOf c table) (min 512 (c .blocks)) (origin (loadOf c table))))
 
-listing-fits : (file : List ℕ) → length (listing file) ≤ room
+pub listing-fits : (file : List ℕ) → length (listing file) ≤ room
 unfolding listing listingOf
 listing-fits file = go (contents file) where
   go : (p : Parsed Contents) → length (listingOf file p) ≤ room
   go (refused r) = omega (arith, refused-short r)
   go (parsed l at) = plan-short file (l .counts) (tableWords (l .blocks))
 
--- so what is put on an empty page is all there
-pub all-there : {b a : List ℕ} {e : ℕ} {more : List ℕ} (file : List ℕ) → listing file ≡ more → Put b 0 more a e → take e a ≡ listing file
-all-there file same p = rw same (put-whole p (rw (← same) (listing-fits file)))
+-- so what is put from a page's start on is all there
+pub all-there : {b a : List ℕ} {e : ℕ} {more : List ℕ} (file : List ℕ) → listing file ≡ more → Put b 0 more a e → Makes file b e a
+all-there file same p = record { within = p .within; lists = rw same (put-whole p (rw (← same) (listing-fits file))); rest = p .rest }

@@ -3,3 +3,4 @@ pub mod Asking
 pub mod Examples
 pub mod Fitting
 pub mod Reading
+pub mod Unique

@@ -1,8 +1,10 @@
 -- What the printing program prints of a load file, byte for byte. Text is in ASCII: a space is 32, a dash 45, the end of a line 10.
-use Prim.Native.Nat.{ℕ}
+use Prim.Native.Nat.{ℕ, _≤_}
 use mathlib.Core.Bool.{Bool, true, false}
 use mathlib.Core.List.{List, [], _∷_, _++_}
+use mathlib.Core.Path.{_≡_}
 use lib.Dec.{leb}
+use lib.ListN.{drop, take}
 use Rattle.load.specs.declared.counts.Counts.{Counts}
 use Rattle.load.specs.declared.refusal.Refusal.{Refusal}
 use Rattle.load.specs.Refusals.{numberOf}
@@ -16,6 +18,7 @@ use Rattle.rules.specs.Counts.{none, summary}
 use Rattle.rules.specs.Load.{loadOf}
 use Rattle.rules.specs.Plan.{plan}
 use Rattle.line.specs.Numerals.{decimalOf}
+use Rattle.line.specs.Pages.{room}
 
 -- One space between fields: a field after another.
 abbrev pub field : ℕ → List ℕ
@@ -72,3 +75,9 @@ listingOf file (parsed l at) = planLines file (l .counts) (tableWords (l .blocks
 
 unfoldable pub listing : List ℕ → List ℕ
 listing file = listingOf file (contents file)
+
+-- The listing stands at the page's start, and the page beyond it is as before.
+pub record Makes (file page : List ℕ) (size : ℕ) (pageThen : List ℕ) : Type 0 where
+  pub within : size ≤ room
+  pub lists : take size pageThen ≡ listing file
+  pub rest : drop size pageThen ≡ drop size page

@@ -3,11 +3,11 @@ mod lines;
 
 ghost use mathlib.Core.Path.{_≡_};
 ghost use Prim.Native.Nat.{_≤_};
-ghost use lib.ListN.{length, take};
+ghost use lib.ListN.{length};
 ghost use Rattle.load.specs.declared.refusal.Verdict.the-variants.{Accepted};
 ghost use Rattle.line.specs.Pages.{Put};
 ghost use Rattle.listing.specs.Asked.{Asked, verdict};
-ghost use Rattle.listing.specs.Listing.{listing, planLines};
+ghost use Rattle.listing.specs.Listing.{Makes, planLines};
 use line::Page;
 use load::counts::Counts;
 use loadfile::Answer;
@@ -49,7 +49,7 @@ fn plan(out: &mut Page, file: &[u8], counts: Counts, blocks: &[u32], rows: &mut 
 // Makes the listing on a page, and answers how many bytes it has. The tables have room for 1,024 blocks and 512 rows; the plan call is lent just the words
 // of the blocks that were read.
 pub fn make(file: &[u8], out: &mut Page) -> usize
-    ensures { λ r. ⌜ take r (now (out .exit)) ≡ listing (now (file .entry)) ⌝ }
+    ensures { λ r. ⌜ Makes (now (file .entry)) (now (out .entry)) r (now (out .exit)) ⌝ }
 {
     let mut blocks = [0u32; 6_144];
     let mut rows = [0u64; 7_680];
