@@ -18,6 +18,8 @@ use Rattle.rules.specs.Plan.{plan}
 use Rattle.rules.specs.Rows.{rowsIn, rowsWords}
 use Rattle.rules.proofs.Demand3.{rows-back}
 use Rattle.rules.proofs.Whole.{plan-blocks, plan-length}
+use Rattle.line.specs.Pages.{Put}
+use Rattle.line.proofs.Pages.{put-then}
 use Rattle.listing.specs.Asked.{Asked, verdict}
 use Rattle.listing.specs.Listing.{countsLine, planLines, rowLines}
 
@@ -48,6 +50,10 @@ module _ (c : Counts) (table rows : List ℕ) (answer : Planned) (rowsThen : Lis
         let left : rowsThen ≡ rowsWords rs ++ drop (15 * length rs) rows = asked .rows-left ∙ ap (rowsAfter c 512 table rows) accepted in
         rw left (rows-back rs (s .blocks) _ (plan-length c 512 table 64 (length rows) accepted ∙ sym blocks-are))
 
-    pub lines-are : (file : List ℕ) → planLines file c table ≡ countsLine s ++ rowLines file (c .stages) (rowsIn (s .blocks) rowsThen)
+    lines-are : (file : List ℕ) → planLines file c table ≡ countsLine s ++ rowLines file (c .stages) (rowsIn (s .blocks) rowsThen)
     unfolding planLines
     lines-are file = rw (rows-are, counts-are) refl
+
+    pub plan-put : (file : List ℕ) {b m a : List ℕ} {at e : ℕ} → Put b 0 (countsLine s) m at → Put m at (rowLines file (c .stages) (rowsIn (s .blocks) rowsThen)) a e
+        → Put b 0 (planLines file c table) a e
+    plan-put file p q = rw (lines-are file) (put-then p q)

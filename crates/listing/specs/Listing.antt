@@ -20,7 +20,7 @@ use Rattle.rules.specs.Plan.{plan}
 use Rattle.line.specs.Numerals.{decimalOf}
 use Rattle.line.specs.Pages.{room}
 
--- One space between fields: a field after another.
+-- One space between fields: a number behind another field.
 abbrev pub field : ℕ → List ℕ
 field n = 32 ∷ decimalOf n
 
@@ -30,7 +30,7 @@ dash = 45 ∷ []
 abbrev pub lineEnd : List ℕ
 lineEnd = 10 ∷ []
 
--- First line: the six counts in the order above.
+-- First line: the six counts: blocks listed, turns, rounds, turns held, held ticks and the end.
 unfoldable pub countsLine : Summary → List ℕ
 countsLine s =
     decimalOf (s .blocks) ++ field (s .turns) ++ field (s .rounds) ++ field (s .held) ++ field (s .ticks) ++ field (s .end) ++ lineEnd
@@ -65,7 +65,7 @@ planLines file c table =
     let rows = plan (loadOf c table) 512 in
     countsLine (summary (c .stages) none rows) ++ rowLines file (c .stages) rows
 
--- A refused file prints the word refused, a space and the number.
+-- A refused file prints the word refused (r e f u s e d), a space and the number.
 unfoldable pub refusedLine : Refusal → List ℕ
 refusedLine r = (114 ∷ 101 ∷ 102 ∷ 117 ∷ 115 ∷ 101 ∷ 100 ∷ []) ++ field (numberOf r) ++ lineEnd
 

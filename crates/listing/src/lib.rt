@@ -14,11 +14,6 @@ use loadfile::Answer;
 use rules::answer::Planned;
 use rules::record::FlowRecord;
 
-// Room for 1,024 blocks and for 512 rows.
-pub type Blocks = [u32; 6_144];
-
-pub type Rows = [u64; 7_680];
-
 // Lends the plan call the flow records, of which nothing is printed. The plan asks for the first 512 blocks.
 // A function that lends records is proved by hand: it takes them by value, so that no other function lends them.
 fn lend(mut flows: [FlowRecord; 64], counts: Counts, blocks: &[u32], rows: &mut [u64]) -> Planned

@@ -1,8 +1,7 @@
 -- `listing::plan` meets its contract: the call accepts the load, so its answer is the plan's counts, and the row table starts with the plan's words.
 use native.Mathlib.Omega.{arith}
 use borrow.Author.Needs.{needs}
-use Rattle.line.proofs.Pages.{put-then}
-use Rattle.listing.proofs.Asking.{few-blocks, lines-are, not-refused}
+use Rattle.listing.proofs.Asking.{few-blocks, not-refused, plan-put}
 use Rattle.listing.proofs.plan.Statement.{statement}
 use Rattle.listing.proofs.plan.Tie as tie
 
@@ -27,7 +26,7 @@ returns-2 c =
     let known = counts .before .before .before in
     let lend = known .before .before .before .before in
     let start = lend .before .before .before .before .before in
-    rw (lines-are _ _ _ _ _ (start .pre .0) (lend .lend .ensures) _ (known .summary .given .1) _) (put-then (counts .counts .ensures) (c .rows2 .ensures))
+    plan-put _ _ _ _ _ (start .pre .0) (lend .lend .ensures) _ (known .summary .given .1) _ (counts .counts .ensures) (c .rows2 .ensures)
 
 pub plan-spec : {M : Type 1} → statement M
 plan-spec =
