@@ -1,14 +1,25 @@
 // Reads a load file from standard input, plans it and prints the plan.
+ghost use lib.ListN.{take};
+ghost use mathlib.Core.Path.{_≡_};
+ghost use Rattle.listing.specs.Listing.{listing as Listing·listing};
 
 mod input;
 
 use input::Input;
+use line::Page;
 
-// The listing is made in one page and written once.
+// The one write. `file` is there for what is asked: that just its listing is written.
+fn write(file: &[u8], page: &Page, end: usize) -> bool
+    requires { ⌜ take end (now page) ≡ Listing·listing (now file) ⌝ }
+{
+    line::write(page, end)
+}
+
+// The listing is made on one page, so that it is known before a byte of it is written.
 fn print(file: &[u8]) {
     let mut page = line::empty();
     let end = listing::make(file, &mut page);
-    if !line::write(&page, end) {
+    if !write(file, &page, end) {
         input::complain(b"plan: cannot write to standard output\n");
     }
 }
