@@ -11,6 +11,6 @@ module _ {K : Type 0} {Args Result Exit : K → Type 0} (post : (κs : K) → Ar
   abbrev pub OneExit : {A : Type 0} → ((κs : K) → Exit κs → A) → Type 0
   OneExit at = (κs : K) (a : Args κs) (r r′ : Result κs) (s s′ : Exit κs) → post κs a r s → post κs a r′ s′ → at κs s ≡ at κs s′
 
-  -- the same of what `of` reads of the result: the bytes of a returned part
+  -- the same of what `of` reads of the result: the place and the bytes of a returned part
   abbrev pub OneValue : {A : Type 0} → ((κs : K) → Result κs → A) → Type 0
   OneValue of = (κs : K) (a : Args κs) (r r′ : Result κs) (s s′ : Exit κs) → post κs a r s → post κs a r′ s′ → of κs r ≡ of κs r′
