@@ -1,29 +1,30 @@
 -- Demand 3: the whole plan of every load that the plan call accepts is fair, and so are the rows that the call leaves in the row
--- table where it answers 0 with a limit that covers all blocks. (`Fair` has the bound, `Turns` the two-turn limit.)
-use Prim.Native.Nat.{ℕ, zero, suc, _+_, _*_, _≤_, _<_, min}
+-- table where it answers 0 with a limit that covers all blocks. (`Fair` has the bound, `Turns` the two-turn limit.) Those rows are
+-- the plan's (`call-rows`), each block of the load once (`call-each-block`), so nothing that the load has is left out.
+use Prim.Native.Nat.{ℕ, zero, suc, _*_, _≤_, _<_, min}
 use mathlib.Core.List.{List, [], _∷_, _++_}
-use mathlib.Core.Path.{_≡_, refl, sym, ap, subst}
+use mathlib.Core.Path.{_≡_, refl, ap}
 use native.Mathlib.Omega.{arith}
 use borrow.Author.Tests.{eqb-false, eqb-true}
 use lib.Dec.{eqb}
 use lib.ListN.{drop, length}
 use Rattle.load.specs.declared.counts.Counts.{Counts}
-use Rattle.load.specs.declared.refusal.Verdict.{Verdict}
 use Rattle.load.specs.declared.refusal.Verdict.the-variants as verdict
 use Rattle.load.specs.Dominant.{dominantTime}
-use Rattle.load.proofs.Accepted.{number-above}
 use Rattle.load.proofs.Cases.{cases}
 use Rattle.rules.specs.declared.answer.Planned.{Planned}
 use Rattle.rules.specs.declared.record.FlowRecord.{FlowRecord}
 use Rattle.rules.specs.declared.row.Row.{Row}
-use Rattle.rules.specs.Calls.{answerNumber, answerOf, Plans, planVerdict, rowsAfter}
+use Rattle.rules.specs.Calls.{answerNumber, Plans, planVerdict}
+use Rattle.rules.specs.EachBlock.{EachBlockOnce}
 use Rattle.rules.specs.Fairness.{Fair, largestOf, largestTime}
 use Rattle.rules.specs.Load.{blockAt, Load, loadOf}
 use Rattle.rules.specs.Plan.{plan}
 use Rattle.rules.specs.Rows.{rowAt, rowsIn, rowsWords, rowWords, wayWords}
-use Rattle.rules.proofs.Accepting.{accepted, sorted, stage-there}
+use Rattle.rules.proofs.EachBlock.{plan-each-block}
 use Rattle.rules.proofs.Fair.{origin-fair}
-use Rattle.rules.proofs.Starts.{Sound}
+use Rattle.rules.proofs.Refusing.{Lists, plan-accepts}
+use Rattle.rules.proofs.Starts.{accepted-sound, Sound}
 use Rattle.rules.proofs.Turns.{origin-turns}
 use Rattle.rules.proofs.Whole.{plan-length}
 
@@ -41,12 +42,7 @@ module _ (c : Counts) (n : ℕ) (table : List ℕ) (flowRecords rowWords : ℕ) 
 
   sound : Sound L (largestTime L)
   unfolding largestTime
-  sound = record {
-    accepted = accepted c n table flowRecords rowWords e .0;
-    sorted = sorted c n table flowRecords rowWords e;
-    stage = stage-there c n table flowRecords rowWords e;
-    bound = largest-bound table (c .blocks);
-  }
+  sound = accepted-sound c n table flowRecords rowWords e (largestTime L) (largest-bound table (c .blocks))
 
   -- of the whole plan, and of its first n rows as if they were all
   pub plan-fair : Fair L (plan L n)
@@ -66,15 +62,18 @@ rows-back (r ∷ rs) zero more h = absurd (omega arith)
 rows-back (r ∷ rs) (suc k) more h = ap (λ (l : List Row). r ∷ l) (rows-back rs k more (omega arith))
 
 -- the words that the plan call leaves
-pub call-fair : (c : Counts) (n : ℕ) (table : List ℕ) (flows : List FlowRecord) (rows : List ℕ) (answer : Planned) (flowsThen : List FlowRecord) (rowsThen : List ℕ)
-    → Plans c n table flows rows answer flowsThen rowsThen → answerNumber answer ≡ 0 → c .blocks ≤ n → Fair (loadOf c table) (rowsIn (c .blocks) rowsThen)
-unfolding answerOf rowsAfter
-call-fair c n table flows rows answer flowsThen rowsThen p is-0 all =
-    go (planVerdict c n table (length flows) (length rows)) refl (p .answers) (p .rows-left) where
-      go : (v : Verdict) → planVerdict c n table (length flows) (length rows) ≡ v → answer ≡ answerOf c n table v → rowsThen ≡ rowsAfter c n table rows v
-          → Fair (loadOf c table) (rowsIn (c .blocks) rowsThen)
-      go (verdict.Refused r) is a t = absurd (omega (arith, number-above r, rw a at is-0))
-      go verdict.Accepted is a t =
-          let rs = plan (loadOf c table) n in
-          let left = rows-back rs (c .blocks) (drop (15 * length rs) rows) (omega (arith, plan-length c n table (length flows) (length rows) is)) in
-          rw t (subst (Fair (loadOf c table)) (sym left) (plan-fair c n table (length flows) (length rows) is))
+module _ (c : Counts) (n : ℕ) (table : List ℕ) (flows : List FlowRecord) (rows : List ℕ) (answer : Planned) (flowsThen : List FlowRecord) (rowsThen : List ℕ)
+    (p : Plans c n table flows rows answer flowsThen rowsThen) (is-0 : answerNumber answer ≡ 0) (all : c .blocks ≤ n) where
+  lists : Lists c n table flows rows answer flowsThen rowsThen
+  lists = plan-accepts c n table flows rows answer flowsThen rowsThen p is-0
+
+  pub call-rows : rowsIn (c .blocks) rowsThen ≡ plan (loadOf c table) n
+  call-rows =
+      let rs = plan (loadOf c table) n in
+      rw (lists .rows-left) (rows-back rs (c .blocks) (drop (15 * length rs) rows) (omega (arith, plan-length c n table (length flows) (length rows) (lists .accepted))))
+
+  pub call-fair : Fair (loadOf c table) (rowsIn (c .blocks) rowsThen)
+  call-fair = rw call-rows (plan-fair c n table (length flows) (length rows) (lists .accepted))
+
+  pub call-each-block : EachBlockOnce (loadOf c table) (rowsIn (c .blocks) rowsThen)
+  call-each-block = rw call-rows (plan-each-block c n table (length flows) (length rows) (lists .accepted) all)

@@ -5,6 +5,7 @@ pub mod Blocks
 pub mod Bounds
 pub mod Decisions
 pub mod Demand3
+pub mod EachBlock
 pub mod Examples
 pub mod Fair
 pub mod FairExamples
@@ -14,6 +15,7 @@ pub mod Spans
 pub mod Standing
 pub mod Starts
 pub mod Steps
+pub mod Sums
 pub mod Turns
 pub mod Unstarted
 pub mod Waiting

@@ -1,5 +1,5 @@
 -- The runs of a block that starts, stage by stage, and what they give between two ticks.
-use Prim.Native.Nat.{ℕ, _+_, _-_, _≤_}
+use Prim.Native.Nat.{ℕ, _+_, _≤_}
 use mathlib.Core.Path.{_≡_}
 use native.Mathlib.Omega.{arith}
 use Rattle.load.specs.declared.block.Block.{Block}

@@ -10,6 +10,8 @@ use lib.Dec.{eqb}
 use lib.ListN.{getD, length, length-set, set}
 use lib.Seq.{getD-set-other, getD-set-same}
 use Rattle.load.specs.declared.block.Block.{Block}
+use Rattle.load.specs.declared.counts.Counts.{Counts}
+use Rattle.load.specs.declared.refusal.Verdict.the-variants as verdict
 use Rattle.load.specs.Dominant.{dominantStage, dominantTime}
 use Rattle.load.proofs.Cases.{cases}
 use Rattle.rules.specs.declared.stages.Way.{Way}
@@ -17,10 +19,13 @@ use Rattle.rules.specs.declared.mode.HeldFlow.{HeldFlow}
 use Rattle.rules.specs.declared.mode.Mode.the-variants.{Idle, Holds, InTurn}
 use Rattle.rules.specs.declared.mode.Mode.{Mode}
 use Rattle.rules.specs.declared.mode.Turn.{Turn}
-use Rattle.rules.specs.Load.{Load, blockAt}
+use Rattle.rules.specs.Calls.{planVerdict}
+use Rattle.rules.specs.EachBlock.{dominantRun, ownBlock}
+use Rattle.rules.specs.Load.{Load, blockAt, loadOf}
 use Rattle.rules.specs.Plan.{Core, Started, after, begins, begun, first, further, heldUntil, oldest, rowOf, spent, started, state, turnOf, upTo, waits, where-waits}
 use Rattle.rules.specs.Stages.{lastRun, runAt, wayOf}
 use Rattle.rules.specs.Within.{Accepted}
+use Rattle.rules.proofs.Accepting.{accepted, sorted, stage-there}
 use Rattle.rules.proofs.Balances.{HeldBalanced, Listed}
 use Rattle.rules.proofs.Blocks.{oldest-own}
 use Rattle.rules.proofs.Bounds.{where-some}
@@ -40,6 +45,15 @@ pub record Sound (L : Load) (M : ℕ) : Type 0 where
   pub stage : (i : ℕ) → i < L .counts .blocks → dominantStage (blockAt (L .table) i) ≤ L .counts .stages
   pub bound : (i : ℕ) → i < L .counts .blocks → dominantTime (blockAt (L .table) i) ≤ M
 
+pub accepted-sound : (c : Counts) (n : ℕ) (table : List ℕ) (flowRecords rowWords : ℕ) → planVerdict c n table flowRecords rowWords ≡ verdict.Accepted
+    → (M : ℕ) → ((i : ℕ) → i < c .blocks → dominantTime (blockAt table i) ≤ M) → Sound (loadOf c table) M
+accepted-sound c n table flowRecords rowWords e M bound = record {
+  accepted = accepted c n table flowRecords rowWords e .0;
+  sorted = sorted c n table flowRecords rowWords e;
+  stage = stage-there c n table flowRecords rowWords e;
+  bound = bound;
+}
+
 module _ (L : Load) (M : ℕ) (ok : Sound L M) where
   abbrev pub endOf : Way → ℕ
   endOf w = lastRun (L .counts .stages) w .finish
@@ -52,7 +66,10 @@ module _ (L : Load) (M : ℕ) (ok : Sound L M) where
     pub there : q .row .block < L .counts .blocks
     pub own : flowAt L (q .row .block) ≡ q .row .flow
     pub left : getD from (q .row .flow) 0 ≤ q .row .block
+    pub passed : q .row .block < getD (q .then .core .from) (q .row .flow) 0
     pub rises : (f : ℕ) → getD from f 0 ≤ getD (q .then .core .from) f 0
+    pub stage : q .row .stage ≡ dominantStage (ownBlock L (q .row))
+    pub takes : dominantRun (q .row) .finish ≡ dominantRun (q .row) .start + dominantTime (ownBlock L (q .row))
     pub goes-on : q .row .way .one .start ≤ q .then .core .clock
     pub ends : endOf (q .then .core .way) ≡ endOf (q .row .way)
     pub turns : q .then .core .turns ≡ q .row .turn
@@ -78,12 +95,16 @@ module _ (L : Load) (M : ℕ) (ok : Sound L M) where
     after-made hold gate =
         let stages = ok .accepted .stages in
         let dominant = dominant-time block in
+        let room : t .flow < length (c .from) = omega (arith, flow-within, froms) in
         let run = way-passes (c .way) (c .clock) block free (L .counts .stages) (stages .0) (stages .1) (dominantStage block) (dominant .0) (dominant .1) (ok .stage place (found .0)) in
         record {
           there = found .0;
           own = found .1;
           left = oldest-from L c (t .flow);
-          rises = λ f. set-cases (λ (v : ℕ). getD (c .from) f 0 ≤ v) (c .from) (t .flow) f (place + 1) (omega (arith, flow-within, froms)) (λ same. rw (← same) (omega (arith, oldest-from L c (t .flow)))) (omega arith);
+          passed = rw (getD-set-same (c .from) (t .flow) (place + 1) 0 room) (omega arith);
+          rises = λ f. set-cases (λ (v : ℕ). getD (c .from) f 0 ≤ v) (c .from) (t .flow) f (place + 1) room (λ same. rw (← same) (omega (arith, oldest-from L c (t .flow)))) (omega arith);
+          stage = refl;
+          takes = rw (dominant .2) at (run .takes);
           goes-on = omega arith;
           ends = refl;
           turns = refl;

@@ -15,10 +15,12 @@ use Rattle.load.proofs.Cases.{by-test, cases, either}
 use Rattle.rules.specs.declared.entry.Entry.{Entry}
 use Rattle.rules.specs.declared.mode.Mode.{Mode}
 use Rattle.rules.specs.declared.mode.Mode.the-variants.{Idle, Holds, InTurn}
+use Rattle.rules.specs.EachBlock.{sumBelow}
 use Rattle.rules.specs.Load.{Load, blockAt, seek}
 use Rattle.rules.specs.Plan.{Core, Line, arrivals, arrived, busy, oldest, upTo, waits}
 use Rattle.rules.specs.Waiting.{listed}
 use Rattle.rules.proofs.Blocks.{getD-zeros, oldest-own}
+use Rattle.rules.proofs.Sums.{sum-more}
 
 pub listed-join : (g : ℕ) (e : Entry) (w : List Entry) → listed g (w ++ (e ∷ [])) ≡ listed g w || eqb (e .flow) g
 unfolding listed
@@ -77,29 +79,16 @@ seek-least table f (suc k) i j h below own =
     let other : i ≡ j → ⊥ = λ q. eqb-false (blockAt table i .flow) f differs (rw q own) in
     seek-least table f k (i + 1) j (omega (arith, other)) (omega arith) own)
 
-abbrev sumTo : (ℕ → ℕ) → ℕ → ℕ
-sumTo p zero = 0
-sumTo p (suc i) = sumTo p i + p i
-
--- two sums that differ by 1 at one place
-sum-one : (p q : ℕ → ℕ) (b : ℕ) → q b ≡ p b + 1 → ((i : ℕ) → (i ≡ b → ⊥) → q i ≡ p i) → (m : ℕ) → sumTo q m ≡ sumTo p m + min 1 (m - b)
-sum-one p q b at off zero = omega arith
-sum-one p q b at off (suc i) =
-    let before = sum-one p q b at off i in
-    cases (eqb i b)
-    (λ e. let here = eqb-true i b e in let more : q i ≡ p i + 1 = rw here at in omega (arith, before, here, more))
-    (λ e. let differ = eqb-false i b e in omega (arith, before, differ, off i differ))
-
 module _ (L : Load) where
   abbrev pub flowAt : ℕ → ℕ
   flowAt i = blockAt (L .table) i .flow
 
   -- how many of the first blocks are started: each counts 1 where its flow's place lies past it
-  abbrev startedAt : List ℕ → ℕ → ℕ
+  abbrev pub startedAt : List ℕ → ℕ → ℕ
   startedAt from i = min 1 (getD from (flowAt i) 0 - i)
 
   abbrev pub startedOf : List ℕ → ℕ → ℕ
-  startedOf from = sumTo (startedAt from)
+  startedOf from = sumBelow (startedAt from)
 
   pub started-none : (m : ℕ) → startedOf (replicate 64 0) m ≡ 0
   started-none zero = refl
@@ -121,8 +110,8 @@ module _ (L : Load) where
         (λ e. let past = ltb-false i p e in omega (arith, past, first i past (sym same)))))
         refl
 
-    pub started-more : (m : ℕ) → startedOf (set from f (b + 1)) m ≡ startedOf from m + min 1 (m - b)
-    started-more = sum-one (startedAt from) (startedAt (set from f (b + 1))) b (rw (own, getD-set-same from f (b + 1) 0 room) (omega arith)) others-same
+    pub started-more : (m : ℕ) → b < m → startedOf (set from f (b + 1)) m ≡ startedOf from m + 1
+    started-more m h = sum-more (startedAt from) (startedAt (set from f (b + 1))) b 1 (rw (own, getD-set-same from f (b + 1) 0 room) (omega arith)) others-same m .0 h
 
   -- a block of a flow that has arrived and isn't started
   pub record Open (from : List ℕ) (next f : ℕ) : Type 0 where

@@ -100,12 +100,12 @@ module _ (L : Load) where
 
       moved-marks : Marks L (k + 1) moved (c .line .next)
       moved-marks =
-          let more = started-more L (c .from) (t .flow) block room (found .1) left (oldest-least L c (t .flow) waiting) (L .counts .blocks) in
+          let more = started-more L (c .from) (t .flow) block room (found .1) left (oldest-least L c (t .flow) waiting) (L .counts .blocks) (omega (arith, found .0, w .0 .next-within)) in
           record {
             long = length-set (c .from) (t .flow) (block + 1) ∙ w .0 .long;
             next-within = w .0 .next-within;
             passed = λ f. set-cases (λ (v : ℕ). v ≤ c .line .next) (c .from) (t .flow) f (block + 1) room (λ _. omega (arith, found .0)) (w .0 .passed f);
-            count = omega (arith, w .0 .count, more, found .0, w .0 .next-within);
+            count = omega (arith, w .0 .count, more);
           }
 
       -- a flow that waits is another, so it still has its block

@@ -1,16 +1,17 @@
--- The starred examples of document 01, and loads of our own for what they do not catch, as one table under one statement.
-use Prim.Native.Nat.{ℕ}
+-- The starred examples of document 01, loads of our own for what they do not catch, and refusals, as one table under one
+-- statement of the plan call.
+use Prim.Native.Nat.{ℕ, zero, suc, _+_, _*_}
 use mathlib.Core.Bool.{Bool, true, false, _&&_}
 use mathlib.Core.List.{List, [], _∷_, _++_}
 use lib.Dec.{eqb}
-use lib.ListN.{length, replicate}
+use lib.ListN.{length, take}
+use Rattle.load.specs.declared.counts.Counts.{Counts}
+use Rattle.load.specs.declared.refusal.Verdict.{Verdict}
+use Rattle.rules.specs.declared.answer.Planned.{Planned}
 use Rattle.rules.specs.declared.answer.Summary.{Summary}
-use Rattle.rules.specs.declared.row.Row.{Row}
 use Rattle.rules.specs.declared.record.FlowRecord.{FlowRecord}
-use Rattle.rules.specs.Counts.{none, records, summary, unlisted}
+use Rattle.rules.specs.Calls.{answerNumber, answerOf, answerSummary, flowsAfter, planVerdict, rowsAfter}
 use Rattle.rules.specs.Load.{Load}
-use Rattle.rules.specs.Plan.{plan}
-use Rattle.rules.specs.Rows.{rowsWords}
 
 pub record Example : Type 0 where
   pub stages : ℕ
@@ -41,17 +42,54 @@ unfoldable pub recordWords : List FlowRecord → List ℕ
 recordWords [] = []
 recordWords (f ∷ fs) = f .blocks ∷ f .turns ∷ f .time ∷ recordWords fs
 
--- rows, flow records and counts are as the table has them
-unfoldable pub holds : Example → Bool
-holds e =
-    let rs : List Row = plan (loadOf e) (e .limit) in
-    same (rowsWords rs) (joined (e .rows))
-    && same (recordWords (records (joined (e .blocks)) 0 (replicate (e .flows) unlisted) rs)) (joined (e .records))
-    && same (countWords (summary (e .stages) none rs)) (e .counts)
+-- What so many words and records hold before a call. No two words of a table are alike, and none is one that a call writes.
+unfoldable pub markedWords : ℕ → List ℕ
+markedWords zero = []
+markedWords (suc k) = (4_000_000_000 + k) ∷ markedWords k
+
+unfoldable pub markedRecords : ℕ → List FlowRecord
+markedRecords zero = []
+markedRecords (suc k) = record { blocks = 4_000_000_000 + k; turns = 5_000_000_000 + k; time = 6_000_000_000 + k } ∷ markedRecords k
+
+-- The call on a load, with so many records and row words lent: its number and counts, and what the two tables hold then.
+unfoldable pub gives : Load → ℕ → ℕ → ℕ → ℕ → List ℕ → List ℕ → List ℕ → Bool
+gives L limit flowRecords rowWords number counts recordsThen rowsThen =
+    let c : Counts = L .counts in
+    let v : Verdict = planVerdict c limit (L .table) flowRecords rowWords in
+    let answer : Planned = answerOf c limit (L .table) v in
+    eqb (answerNumber answer) number
+    && same (countWords (answerSummary answer)) counts
+    && same (recordWords (flowsAfter c limit (L .table) (markedRecords flowRecords) v)) recordsThen
+    && same (rowsAfter c limit (L .table) (markedWords rowWords) v) rowsThen
+
+-- A load is accepted, and counts, records and rows are as the table has them, where the lent tables have so much room beyond need,
+-- which is left as found.
+unfoldable pub holdsWith : ℕ → Example → Bool
+holdsWith room e =
+    gives (record { counts = loadOf e .counts; table = joined (e .blocks) ++ markedWords room }) (e .limit)
+    (e .flows + room) (15 * length (e .rows) + room) 0 (e .counts)
+    (joined (e .records) ++ recordWords (markedRecords room))
+    (joined (e .rows) ++ markedWords room)
 
 unfoldable pub allHold : List Example → Bool
 allHold [] = true
-allHold (e ∷ es) = holds e && allHold es
+allHold (e ∷ es) = holdsWith 0 e && holdsWith 2 e && allHold es
+
+-- A call that is refused: the number, and what it is asked and lent.
+pub record Refusal : Type 0 where
+  pub number : ℕ
+  pub load : Load
+  pub limit : ℕ
+  pub flowRecords : ℕ
+  pub rowWords : ℕ
+
+-- It gives counts of 0, and both tables are as before.
+unfoldable pub allRefused : List Refusal → Bool
+allRefused [] = true
+allRefused (r ∷ rs) =
+    gives (r .load) (r .limit) (r .flowRecords) (r .rowWords) (r .number) (0 ∷ 0 ∷ 0 ∷ 0 ∷ 0 ∷ 0 ∷ [])
+    (recordWords (markedRecords (r .flowRecords))) (markedWords (r .rowWords))
+    && allRefused rs
 
 unfoldable pub E1 : Example
 E1 = record {
@@ -392,6 +430,28 @@ arrival-at-the-finish = record {
   counts = 3 ∷ 3 ∷ 2 ∷ 0 ∷ 0 ∷ 9 ∷ [];
 }
 
+-- A hold of one tick is a hold.
+unfoldable pub held-one-tick : Example
+held-one-tick = record {
+  stages = 2;
+  flows = 1;
+  blocks =
+      (0 ∷ 0 ∷ 1 ∷ 2 ∷ 0 ∷ 0 ∷ [])
+      ∷ (0 ∷ 0 ∷ 1 ∷ 2 ∷ 0 ∷ 0 ∷ [])
+      ∷ (0 ∷ 0 ∷ 1 ∷ 2 ∷ 0 ∷ 0 ∷ [])
+      ∷ [];
+  limit = 18446744073709551615;
+  rows =
+      (0 ∷ 0 ∷ 1 ∷ 1 ∷ 0 ∷ 0 ∷ 2 ∷ 0 ∷ 1 ∷ 1 ∷ 3 ∷ 0 ∷ 0 ∷ 0 ∷ 0 ∷ [])
+      ∷ (1 ∷ 0 ∷ 2 ∷ 2 ∷ 0 ∷ 0 ∷ 2 ∷ 1 ∷ 2 ∷ 3 ∷ 5 ∷ 0 ∷ 0 ∷ 0 ∷ 0 ∷ [])
+      ∷ (2 ∷ 0 ∷ 3 ∷ 3 ∷ 0 ∷ 1 ∷ 2 ∷ 3 ∷ 4 ∷ 5 ∷ 7 ∷ 0 ∷ 0 ∷ 0 ∷ 0 ∷ [])
+      ∷ [];
+  records =
+      (3 ∷ 3 ∷ 6 ∷ [])
+      ∷ [];
+  counts = 3 ∷ 3 ∷ 3 ∷ 1 ∷ 1 ∷ 7 ∷ [];
+}
+
 -- The planner runs empty and goes on at the next arrival; the excess of a flow that left is forgotten.
 unfoldable pub idle-again : Example
 idle-again = record {
@@ -478,4 +538,41 @@ four-stages = record {
 
 unfoldable pub examples : List Example
 examples =
-    E1 ∷ E2 ∷ E3 ∷ E4 ∷ E5 ∷ E6 ∷ E7 ∷ E8 ∷ E9 ∷ E10 ∷ E10-none ∷ E11 ∷ zero-goes-on ∷ excess-of-the-round-before ∷ arrival-at-the-finish ∷ idle-again ∷ three-stages ∷ four-stages ∷ []
+    E1 ∷ E2 ∷ E3 ∷ E4 ∷ E5 ∷ E6 ∷ E7 ∷ E8 ∷ E9 ∷ E10 ∷ E10-none ∷ E11 ∷ zero-goes-on ∷ excess-of-the-round-before ∷ arrival-at-the-finish ∷ held-one-tick ∷ idle-again ∷ three-stages ∷ four-stages ∷ []
+
+-- any counts, with so many of the 24 words of E2's blocks
+unfoldable pub asked : ℕ → ℕ → ℕ → ℕ → Load
+asked stages flows blocks words =
+    record { counts = record { stages = stages; flows = flows; blocks = blocks }; table = take words (joined (E2 .blocks)) }
+
+-- a block below one that arrives at 5, and above one whose times are all 0
+unfoldable pub fault : ℕ → List ℕ → Refusal
+fault number block = record {
+  number = number;
+  load = record { counts = record { stages = 2; flows = 2; blocks = 3 }; table = joined ((0 ∷ 5 ∷ 1 ∷ 3 ∷ 0 ∷ 0 ∷ []) ∷ block ∷ (0 ∷ 1_000_000_000 ∷ 0 ∷ 0 ∷ 0 ∷ 0 ∷ []) ∷ []) };
+  limit = 3;
+  flowRecords = 2;
+  rowWords = 45;
+}
+
+-- The first that applies is given: most would be refused by a later test too. 64 flows and 1,024 blocks are refused by 7 alone, and the
+-- last block is at its limits, so that the one below it is refused.
+unfoldable pub refusals : List Refusal
+refusals =
+    record { number = 3; load = asked 0 65 4 24; limit = 4; flowRecords = 2; rowWords = 60 }
+    ∷ record { number = 3; load = asked 5 2 4 24; limit = 4; flowRecords = 2; rowWords = 60 }
+    ∷ record { number = 4; load = asked 4 65 4 24; limit = 4; flowRecords = 64; rowWords = 60 }
+    ∷ record { number = 4; load = asked 1 2 1025 24; limit = 4; flowRecords = 2; rowWords = 60 }
+    ∷ record { number = 7; load = asked 2 64 1024 24; limit = 4; flowRecords = 64; rowWords = 60 }
+    ∷ record { number = 7; load = asked 2 2 4 23; limit = 4; flowRecords = 2; rowWords = 60 }
+    ∷ record { number = 7; load = asked 2 1 4 24; limit = 4; flowRecords = 0; rowWords = 60 }
+    ∷ record { number = 7; load = asked 2 2 4 24; limit = 5; flowRecords = 2; rowWords = 59 }
+    ∷ record { number = 7; load = asked 2 2 4 24; limit = 2; flowRecords = 2; rowWords = 29 }
+    ∷ fault 8 (2 ∷ 1_000_000_001 ∷ 1 ∷ 3 ∷ 0 ∷ 0 ∷ [])
+    ∷ fault 9 (1 ∷ 1_000_000_001 ∷ 0 ∷ 0 ∷ 0 ∷ 0 ∷ [])
+    ∷ fault 9 (1 ∷ 5 ∷ 10_000_001 ∷ 0 ∷ 0 ∷ 0 ∷ [])
+    ∷ fault 9 (1 ∷ 5 ∷ 0 ∷ 0 ∷ 1 ∷ 0 ∷ [])
+    ∷ fault 10 (1 ∷ 4 ∷ 0 ∷ 0 ∷ 0 ∷ 0 ∷ [])
+    ∷ fault 11 (1 ∷ 4 ∷ 1 ∷ 3 ∷ 0 ∷ 0 ∷ [])
+    ∷ fault 10 (1 ∷ 1_000_000_000 ∷ 10_000_000 ∷ 10_000_000 ∷ 0 ∷ 0 ∷ [])
+    ∷ []

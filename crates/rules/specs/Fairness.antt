@@ -1,4 +1,5 @@
--- Demand 3, in terms of a load and its rows alone.
+-- Demand 3, in terms of a load and its rows alone. Of no rows it says nothing: it is meant of rows that are each block of the load
+-- once (`EachBlockOnce`), as those of a plan are whose limit covers all blocks (`plan-each-block`).
 use Prim.Native.Nat.{ℕ, zero, suc, _+_, _*_, _-_, _≤_, _<_, max, min}
 use mathlib.Core.Bool.{Bool, true, false, cond, _&&_, _||_}
 use mathlib.Core.List.{List, [], _∷_}
