@@ -16,16 +16,17 @@ use Rattle.load.specs.Refusals.{given}
 use Rattle.loadfile.specs.declared.record.Walk.the-variants.{At, Stopped}
 use Rattle.loadfile.specs.Answers.{bodyBlocks, bodyEnd, bodyWalk, walkOf}
 use Rattle.loadfile.specs.Layout.{Parsed, refused, parsed, Contents, after, stopIf, unless, blockRecords, flowRecords, records, whole}
+use Rattle.loadfile.specs.Parts.{Part}
 
 -- the file, read
-abbrev pub held : Counts → List (List ℕ) → List Block → Contents
+abbrev pub held : Counts → List Part → List Block → Contents
 held c names blocks = record { counts = c; names = names; blocks = blocks }
 
 module _ (c : Counts) (s : List ℕ) where
-  abbrev toEnd : List (List ℕ) → List Block → ℕ → Parsed Contents
+  abbrev toEnd : List Part → List Block → ℕ → Parsed Contents
   toEnd names blocks end = whole s (held c names blocks) end
 
-  abbrev toBlocks : List (List ℕ) → ℕ → Parsed Contents
+  abbrev toBlocks : List Part → ℕ → Parsed Contents
   toBlocks names from = after (blockRecords s c 0 (c .blocks) from) (toEnd names)
 
   pub body-refuses : (r : Refusal) → bodyWalk c s ≡ Stopped r → records c s ≡ refused r
@@ -35,17 +36,17 @@ module _ (c : Counts) (s : List ℕ) where
     ended l from end true e = let z : _≡_ {A = ℕ} 0 1 = cc in absurd (omega arith)
     ended l from end false e = cc
 
-    blocks : (names : List (List ℕ)) (from : ℕ) (q : Parsed (List Block)) → bodyEnd s from (walkOf q) ≡ Stopped r → after q (toEnd names) ≡ refused r
+    blocks : (names : List Part) (from : ℕ) (q : Parsed (List Block)) → bodyEnd s from (walkOf q) ≡ Stopped r → after q (toEnd names) ≡ refused r
     blocks names from (refused q) e = cc
     blocks names from (parsed bs end) e = ended (held c names bs) from end (eqb end (length s)) e
 
-    flows : (p : Parsed (List (List ℕ))) → bodyBlocks c s (walkOf p) ≡ Stopped r → after p toBlocks ≡ refused r
+    flows : (p : Parsed (List Part)) → bodyBlocks c s (walkOf p) ≡ Stopped r → after p toBlocks ≡ refused r
     flows (refused q) e = cc
     flows (parsed names from) e = blocks names from (blockRecords s c 0 (c .blocks) from) e
 
   -- what a body that is sound was read from
   pub record Sound (from : ℕ) : Type 0 where
-    pub names : List (List ℕ)
+    pub names : List Part
     pub blocks : List Block
     pub flows-read : flowRecords s (c .flows) 10 ≡ parsed names from
     pub blocks-read : blockRecords s c 0 (c .blocks) from ≡ parsed blocks (length s)
@@ -54,7 +55,7 @@ module _ (c : Counts) (s : List ℕ) where
   pub body-reads : (from : ℕ) → bodyWalk c s ≡ At from → Sound from
   unfolding bodyWalk bodyBlocks bodyEnd records after walkOf whole unless given stopIf
   body-reads from e = flows (flowRecords s (c .flows) 10) refl e where
-    blocks : (names : List (List ℕ)) (start : ℕ) → flowRecords s (c .flows) 10 ≡ parsed names start → (q : Parsed (List Block)) → blockRecords s c 0 (c .blocks) start ≡ q → bodyEnd s start (walkOf q) ≡ At from → Sound from
+    blocks : (names : List Part) (start : ℕ) → flowRecords s (c .flows) 10 ≡ parsed names start → (q : Parsed (List Block)) → blockRecords s c 0 (c .blocks) start ≡ q → bodyEnd s start (walkOf q) ≡ At from → Sound from
     blocks names start p (refused r) m e = let z : _≡_ {A = ℕ} 0 1 = cc in absurd (omega arith)
     blocks names start p (parsed bs end) m e = ended (eqb end (length s)) refl e where
       ended : (same : Bool) → eqb end (length s) ≡ same → stopIf (not same) Record (At start) ≡ At from → Sound from
@@ -70,6 +71,6 @@ module _ (c : Counts) (s : List ℕ) where
           }
       ended false t e = let z : _≡_ {A = ℕ} 0 1 = cc in absurd (omega arith)
 
-    flows : (p : Parsed (List (List ℕ))) → flowRecords s (c .flows) 10 ≡ p → bodyBlocks c s (walkOf p) ≡ At from → Sound from
+    flows : (p : Parsed (List Part)) → flowRecords s (c .flows) 10 ≡ p → bodyBlocks c s (walkOf p) ≡ At from → Sound from
     flows (refused r) m e = let z : _≡_ {A = ℕ} 0 1 = cc in absurd (omega arith)
     flows (parsed names start) m e = blocks names start m (blockRecords s c 0 (c .blocks) start) refl e

@@ -1,7 +1,9 @@
 pub mod Body
+pub mod Examples
 pub mod Files
 pub mod Filling
 pub mod Names
+pub mod Parts
 pub mod Records
 pub mod Refusing
 pub mod Shown

@@ -18,8 +18,8 @@ use Rattle.load.proofs.Cases.{or-false}
 use Rattle.loadfile.specs.declared.record.Found.the-variants as found
 use Rattle.loadfile.specs.declared.record.Walk.the-variants.{At, Stopped}
 use Rattle.loadfile.specs.declared.record.Walk.{Walk}
-use Rattle.loadfile.specs.Answers.{blockFound, walkOf}
-use Rattle.loadfile.specs.Layout.{Parsed, refused, parsed, stopIf, unless, measure, nameBytes, nameIn, flowMeasured, flowRecord, blockIn, blockMeasured, blockRecord}
+use Rattle.loadfile.specs.Answers.{blockFound}
+use Rattle.loadfile.specs.Layout.{Parsed, refused, parsed, stopIf, unless, measure, nameBytes, flowMeasured, flowRecord, blockIn, blockMeasured, blockRecord}
 
 pub name-bytes-step : (s : List ℕ) (i : ℕ) → i < length s → nameBytes (drop i s) ≡ leb 33 (getD s i 0) && leb (getD s i 0) 126 && nameBytes (drop (i + 1) s)
 unfolding nameBytes
@@ -36,11 +36,6 @@ unfolding unless
 unless-passed Accepted p a at e = e
 unless-passed (Refused r) p a at e = let z : _≡_ {A = ℕ} 0 1 = cc in absurd (omega arith)
 
-pub walked : {A : Type 0} (p : Parsed A) (at : ℕ) → walkOf p ≡ At at → (a : A) × (p ≡ parsed a at)
-unfolding walkOf
-walked (refused r) at e = let z : _≡_ {A = ℕ} 0 1 = cc in absurd (omega arith)
-walked (parsed a next) at e = (a, cc)
-
 -- a record that is measured has its length byte, between the bounds, and lies within the bytes given
 pub measure-within : (least most : ℕ) (rest : List ℕ) (next : ℕ) → measure least most rest ≡ At next → (least < next) × (next ≤ most + 1) × (next ≤ length rest)
 unfolding measure
@@ -54,15 +49,13 @@ measure-within least most rest next e =
     let size : 1 + n ≡ next = cc in
     omega (arith, ltb-false n least (bounds .0), ltb-false most n (bounds .1), leb-false (length rest) n (whole .0))
 
--- a flow record that is read is measured, and its name is what lies between its length byte and the next record
-pub flow-record-reads : (rest name : List ℕ) (size : ℕ) → flowRecord rest ≡ parsed name size → (measure 0 31 rest ≡ At size) × (name ≡ nameIn rest size)
+-- a flow record that is read is measured
+pub flow-record-reads : (rest : List ℕ) (size : ℕ) → flowRecord rest ≡ At size → measure 0 31 rest ≡ At size
 unfolding flowRecord flowMeasured
-flow-record-reads rest name size e = go (measure 0 31 rest) e where
-  go : (w : Walk) → flowMeasured rest w ≡ parsed name size → (w ≡ At size) × (name ≡ nameIn rest size)
+flow-record-reads rest size e = go (measure 0 31 rest) e where
+  go : (w : Walk) → flowMeasured rest w ≡ At size → w ≡ At size
   go (Stopped r) e = let z : _≡_ {A = ℕ} 0 1 = cc in absurd (omega arith)
-  go (At next) e =
-      let read : parsed (nameIn rest next) next ≡ parsed name size = unless-passed _ _ _ _ e in
-      (cc, cc)
+  go (At next) e = stop-passed _ _ _ _ e .1
 
 -- a block record that is read has this size, lies within the bytes given, and holds the block that its bytes say
 pub block-record-reads : (c : Counts) (above : ℕ) (rest : List ℕ) (b : Block) (size : ℕ) → blockRecord c above rest ≡ parsed b size

@@ -1,10 +1,11 @@
 -- The name shown for a flow, from the soundness call's verdict: nothing for an unsound file or an absent flow, and otherwise
 -- the flow's own name or the standing list's entry.
 use Prim.Native.Nat.{ℕ, _≤_, _<_}
-use mathlib.Core.List.{List, [], _∷_}
+use mathlib.Core.List.{List}
 use mathlib.Core.Path.{_≡_, refl, _∙_}
 use native.Mathlib.Omega.{arith}
 use borrow.Author.Tests.{lt-ltb, le-ltb}
+use denote.Ref.{RefT, now}
 use lib.ListN.{length}
 use Rattle.load.specs.declared.counts.Counts.{Counts}
 use Rattle.load.specs.declared.refusal.Refusal.{Refusal}
@@ -13,17 +14,18 @@ use Rattle.load.specs.declared.refusal.Verdict.{Verdict}
 use Rattle.loadfile.specs.declared.record.Walk.the-variants.{At, Stopped}
 use Rattle.loadfile.specs.declared.record.Walk.{Walk}
 use Rattle.loadfile.specs.Answers.{bodyWalk, ownName, verdictOf}
-use Rattle.loadfile.specs.Calls.{contents, entry, nameOf, ownOr, shownName, soundness}
+use Rattle.loadfile.specs.Calls.{contents, entry, ofFile, ofStanding, ownOr, shownBytes, shownName, shownOf, shownPart, shownPlace, Shows, soundness}
 use Rattle.loadfile.specs.Layout.{Parsed, refused, parsed, Contents, countsIn, flowRecords, headerVerdict, records}
+use Rattle.loadfile.specs.Parts.{empty, IsPart, Part}
 use Rattle.loadfile.proofs.Body.{body-reads, body-refuses, held}
 use Rattle.loadfile.proofs.Files.{contents-records, contents-refused}
 use Rattle.loadfile.proofs.Names.{own-name}
 
 -- a file that is not sound shows nothing
-pub shown-unsound : (file standing : List ℕ) (flow : ℕ) (r : Refusal) → soundness file ≡ Refused r → shownName file standing flow ≡ []
-unfolding soundness verdictOf shownName nameOf
+pub shown-unsound : (file standing : List ℕ) (flow : ℕ) (r : Refusal) → soundness file ≡ Refused r → shownPart file standing flow ≡ ofStanding empty
+unfolding soundness verdictOf shownPart shownOf
 shown-unsound file standing flow r e = go (contents file) e where
-  go : (p : Parsed Contents) → verdictOf p ≡ Refused r → nameOf p standing flow ≡ []
+  go : (p : Parsed Contents) → verdictOf p ≡ Refused r → shownOf p standing flow ≡ ofStanding empty
   go (refused q) e = refl
   go (parsed l at) e = let z : _≡_ {A = ℕ} 0 1 = cc in absurd (omega arith)
 
@@ -66,33 +68,34 @@ sound-holds file e = go (bodyWalk (countsIn file) file) refl (contents-records f
         named = sound .flows-read;
       }
 
--- the own name where it has at least one byte
-own-some : (own other : List ℕ) → 0 < length own → ownOr own other ≡ own
-unfolding ownOr
-own-some [] other h = absurd (omega arith)
-own-some (b ∷ bs) other h = refl
-
-own-none : (own other : List ℕ) → length own ≤ 0 → ownOr own other ≡ other
-unfolding ownOr
-own-none [] other h = refl
-own-none (b ∷ bs) other h = absurd (omega arith)
-
 module _ (file standing : List ℕ) (flow : ℕ) (c : Counts) (same : c ≡ countsIn file) (sound : soundness file ≡ Accepted) where
-  pub shown-absent : c .flows ≤ flow → shownName file standing flow ≡ []
-  unfolding shownName nameOf
+  pub shown-absent : c .flows ≤ flow → shownPart file standing flow ≡ ofStanding empty
+  unfolding shownPart shownOf
   shown-absent h =
       let l = sound-holds file sound in
       rw (l .holds, l .counted, le-ltb flow (countsIn file .flows) (rw same at h))
 
-  shown-name : flow < c .flows → shownName file standing flow ≡ ownOr (ownName file flow) (entry standing flow)
-  unfolding shownName nameOf ownName
+  shown-name : flow < c .flows → shownPart file standing flow ≡ ownOr (ownName file flow) (entry standing flow)
+  unfolding shownPart shownOf ownName
   shown-name h =
       let l = sound-holds file sound in
       rw (l .holds, l .counted, lt-ltb flow (countsIn file .flows) (rw same at h), own-name file _ 10 _ _ (l .named) flow (rw same at h))
 
   -- the own name where it has at least one byte, and otherwise the standing list's entry
-  pub shown-own : flow < c .flows → (own : List ℕ) → own ≡ ownName file flow → 0 < length own → shownName file standing flow ≡ own
-  shown-own h own e long = shown-name h ∙ rw (← e) (own-some own _ long)
+  pub shown-own : flow < c .flows → 0 < ownName file flow .size → shownPart file standing flow ≡ ofFile (ownName file flow)
+  unfolding ownOr
+  shown-own h long = shown-name h ∙ rw (lt-ltb 0 (ownName file flow .size) long)
 
-  pub shown-entry : flow < c .flows → (own : List ℕ) → own ≡ ownName file flow → length own ≤ 0 → shownName file standing flow ≡ entry standing flow
-  shown-entry h own e none = shown-name h ∙ rw (← e) (own-none own _ none)
+  pub shown-entry : flow < c .flows → ownName file flow .size ≤ 0 → shownPart file standing flow ≡ ofStanding (entry standing flow)
+  unfolding ownOr
+  shown-entry h none = shown-name h ∙ rw (le-ltb 0 (ownName file flow .size) none)
+
+-- a part of the file or of the standing list is what is shown
+module _ (file standing : RefT (List ℕ)) (flow : ℕ) (p : Part) (r : RefT (List ℕ)) where
+  pub shows-file : shownPart (now file) (now standing) flow ≡ ofFile p → IsPart file p r → Shows file standing flow r
+  unfolding shownName shownBytes shownPlace
+  shows-file e is = record { place = rw e (is .place); bytes = rw e (is .bytes) }
+
+  pub shows-standing : shownPart (now file) (now standing) flow ≡ ofStanding p → IsPart standing p r → Shows file standing flow r
+  unfolding shownName shownBytes shownPlace
+  shows-standing e is = record { place = rw e (is .place); bytes = rw e (is .bytes) }

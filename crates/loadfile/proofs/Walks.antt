@@ -12,8 +12,8 @@ use Rattle.loadfile.specs.declared.record.Found.the-variants as found
 use Rattle.loadfile.specs.declared.record.Walk.the-variants.{At, Stopped}
 use Rattle.loadfile.specs.declared.record.Walk.{Walk}
 use Rattle.loadfile.specs.Answers.{blockFound, listOf, walkOf}
-use Rattle.loadfile.specs.Layout.{Parsed, refused, parsed, after, onto, flowRecord, flowRecords, blockIn, blockRecord, blockRecords}
-use Rattle.loadfile.proofs.Records.{block-record-reads, flow-record-reads, measure-within, walked}
+use Rattle.loadfile.specs.Layout.{Parsed, refused, parsed, after, onto, past, flowRecord, flowRecords, blockIn, blockRecord, blockRecords}
+use Rattle.loadfile.proofs.Records.{block-record-reads, flow-record-reads, measure-within}
 
 pub walk-onto : {A : Type 0} (a : A) (p : Parsed (List A)) → walkOf (onto a p) ≡ walkOf p
 unfolding onto walkOf
@@ -32,21 +32,15 @@ module _ (s : List ℕ) (at : ℕ) where
   flows-end zero h = refl
   flows-end (suc k) h = absurd (omega arith)
 
-  pub flows-stop : (left : ℕ) (r : Refusal) → 0 < left → walkOf (flowRecord (drop at s)) ≡ Stopped r → walkOf (flowRecords s left at) ≡ Stopped r
-  unfolding flowRecords after walkOf
+  pub flows-stop : (left : ℕ) (r : Refusal) → 0 < left → flowRecord (drop at s) ≡ Stopped r → walkOf (flowRecords s left at) ≡ Stopped r
+  unfolding flowRecords past walkOf
   flows-stop zero r h e = absurd (omega arith)
-  flows-stop (suc k) r h e = go (flowRecord (drop at s)) e where
-    go : (p : Parsed (List ℕ)) → walkOf p ≡ Stopped r → walkOf (after p (λ name size. onto name (flowRecords s k (at + size)))) ≡ Stopped r
-    go (refused q) e = e
-    go (parsed name size) e = let z : _≡_ {A = ℕ} 0 1 = cc in absurd (omega arith)
+  flows-stop (suc k) r h e = rw e
 
-  pub flows-next : (left size : ℕ) → 0 < left → walkOf (flowRecord (drop at s)) ≡ At size → walkOf (flowRecords s left at) ≡ walkOf (flowRecords s (left - 1) (at + size))
-  unfolding flowRecords after walkOf
+  pub flows-next : (left size : ℕ) → 0 < left → flowRecord (drop at s) ≡ At size → walkOf (flowRecords s left at) ≡ walkOf (flowRecords s (left - 1) (at + size))
+  unfolding flowRecords past walkOf
   flows-next zero size h e = absurd (omega arith)
-  flows-next (suc k) size h e = rw sub-one (go (flowRecord (drop at s)) e) where
-    go : (p : Parsed (List ℕ)) → walkOf p ≡ At size → walkOf (after p (λ name n. onto name (flowRecords s k (at + n)))) ≡ walkOf (flowRecords s k (at + size))
-    go (refused q) e = let z : _≡_ {A = ℕ} 0 1 = cc in absurd (omega arith)
-    go (parsed name n) e = let same : n ≡ size = cc in walk-onto name _ ∙ rw same refl
+  flows-next (suc k) size h e = rw (sub-one, e) (walk-onto _ _)
 
 module _ (s : List ℕ) (c : Counts) (above at : ℕ) where
   -- no block record left, or one
@@ -71,10 +65,9 @@ module _ (s : List ℕ) (c : Counts) (above at : ℕ) where
   blocks-next (suc k) b size h e = rw (sub-one, e)
 
 -- a flow record within the file ends within it
-pub flow-within : (s : List ℕ) (at size : ℕ) → walkOf (flowRecord (drop at s)) ≡ At size → at ≤ length s → at + size ≤ length s
+pub flow-within : (s : List ℕ) (at size : ℕ) → flowRecord (drop at s) ≡ At size → at ≤ length s → at + size ≤ length s
 flow-within s at size e h =
-    let read = walked (flowRecord (drop at s)) size e in
-    let within = measure-within 0 31 (drop at s) size (flow-record-reads (drop at s) (read .0) size (read .1) .0) in
+    let within = measure-within 0 31 (drop at s) size (flow-record-reads (drop at s) size e) in
     omega (arith, length-drop at s)
 
 -- a block record within the file ends within it
@@ -105,8 +98,8 @@ flows-within s zero at end h e =
     let last : At at ≡ At end = sym (flows-end s at 0 (omega arith)) ∙ e in
     let same : at ≡ end = cc in
     omega arith
-flows-within s (suc k) at end h e = go (walkOf (flowRecord (drop at s))) refl (λ size. flows-within s k (at + size) end) where
-  go : (w : Walk) → walkOf (flowRecord (drop at s)) ≡ w → ((size : ℕ) → at + size ≤ length s → walkOf (flowRecords s k (at + size)) ≡ At end → end ≤ length s) → end ≤ length s
+flows-within s (suc k) at end h e = go (flowRecord (drop at s)) refl (λ size. flows-within s k (at + size) end) where
+  go : (w : Walk) → flowRecord (drop at s) ≡ w → ((size : ℕ) → at + size ≤ length s → walkOf (flowRecords s k (at + size)) ≡ At end → end ≤ length s) → end ≤ length s
   go (Stopped r) m later =
       let stop : walkOf (flowRecords s (suc k) at) ≡ Stopped r = flows-stop s at (suc k) r (omega arith) m in
       let z : _≡_ {A = ℕ} 0 1 = cc in

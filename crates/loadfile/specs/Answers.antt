@@ -14,6 +14,7 @@ use Rattle.loadfile.specs.declared.record.Walk.the-variants.{At, Stopped
 use Rattle.loadfile.specs.declared.record.Found.{Found}
 use Rattle.loadfile.specs.declared.record.Found.the-variants as found
 use Rattle.loadfile.specs.Layout.{Parsed, refused, parsed, stopIf, blockRecords, flowRecords, measure, nameIn}
+use Rattle.loadfile.specs.Parts.{Part, empty}
 
 module _ {A : Type 0} where
   unfoldable pub walkOf : Parsed A → Walk
@@ -44,14 +45,14 @@ bodyBlocks c s (At from) = bodyEnd s from (walkOf (blockRecords s c 0 (c .blocks
 unfoldable pub bodyWalk : Counts → List ℕ → Walk
 bodyWalk c s = bodyBlocks c s (walkOf (flowRecords s (c .flows) 10))
 
--- the name in the record that follows so many flow records
-unfoldable pub nameAt : List ℕ → Walk → List ℕ
-nameAt rest (Stopped r) = []
-nameAt rest (At next) = nameIn rest next
+-- the name in the record that follows so many flow records, an empty part where there is none
+unfoldable pub nameAt : ℕ → Walk → Part
+nameAt at (Stopped r) = empty
+nameAt at (At size) = nameIn at size
 
-unfoldable pub nameAfter : List ℕ → Walk → List ℕ
-nameAfter s (Stopped r) = []
-nameAfter s (At at) = nameAt (drop at s) (measure 0 31 (drop at s))
+unfoldable pub nameAfter : List ℕ → Walk → Part
+nameAfter s (Stopped r) = empty
+nameAfter s (At at) = nameAt at (measure 0 31 (drop at s))
 
-unfoldable pub ownName : List ℕ → ℕ → List ℕ
+unfoldable pub ownName : List ℕ → ℕ → Part
 ownName s flow = nameAfter s (walkOf (flowRecords s flow 10))

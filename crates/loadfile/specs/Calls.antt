@@ -1,10 +1,11 @@
 -- What the three public calls answer, for all arguments.
 use Prim.Native.Nat.{ℕ, zero, suc, _+_, _*_}
 use mathlib.Core.Path.{_≡_}
-use mathlib.Core.Bool.{Bool, true, false, cond}
+use mathlib.Core.Bool.{false, cond}
 use mathlib.Core.List.{List, [], _∷_, _++_}
+use denote.Ref.{RefT, now}
 use lib.Dec.{ltb}
-use lib.ListN.{length, getD, take, drop}
+use lib.ListN.{length, getD, drop}
 use Rattle.load.specs.declared.block.Block.{Block}
 use Rattle.load.specs.declared.counts.Counts.{Counts}
 use Rattle.load.specs.declared.refusal.Verdict.{Verdict}
@@ -14,6 +15,7 @@ use Rattle.loadfile.specs.declared.Answer.{Answer}
 use Rattle.loadfile.specs.declared.Answer.the-variants.{Refused, Read}
 use Rattle.loadfile.specs.Layout.{Parsed, refused, parsed, Contents, fileWith}
 use Rattle.loadfile.specs.Answers.{verdictOf}
+use Rattle.loadfile.specs.Parts.{Part, bytesIn, empty, placeIn}
 
 -- The soundness call omits 7.
 unfoldable pub contents : List ℕ → Parsed Contents
@@ -52,20 +54,43 @@ pub record Reads (file table : List ℕ) (answer : Answer) (tableThen : List ℕ
   pub answers : answer ≡ answerOf (reading file table)
   pub leaves : tableThen ≡ tableAfter (reading file table) table
 
--- The entry with the flow's number, from 0, in a standing list (length byte, name, repeated); empty where the list ends before
--- the last byte of that entry.
-unfoldable pub entry : List ℕ → ℕ → List ℕ
-entry list zero = cond (ltb (getD list 0 0) (length list)) (take (getD list 0 0) (drop 1 list)) []
-entry list (suc flow) = entry (drop (1 + getD list 0 0) list) flow
+-- The name is a part of the file or of the standing list.
+pub data Shown : Type 0 where
+  ofFile : Part → Shown
+  ofStanding : Part → Shown
+
+-- The entry with the flow's number, from 0, in a standing list (length byte, name, repeated); the empty part at the list's start
+-- where the list ends before the last byte of that entry. `entryFrom` counts from the entry that starts at a byte of the list.
+unfoldable pub entryFrom : List ℕ → ℕ → ℕ → Part
+entryFrom list at zero = cond (ltb (at + getD list at 0) (length list)) (record { from = at + 1; size = getD list at 0 }) empty
+entryFrom list at (suc flow) = entryFrom list (at + (1 + getD list at 0)) flow
+
+unfoldable pub entry : List ℕ → ℕ → Part
+entry list flow = entryFrom list 0 flow
 
 -- The file's own name where it has at least one byte, and otherwise the standing list's.
-unfoldable pub ownOr : List ℕ → List ℕ → List ℕ
-ownOr [] other = other
-ownOr (b ∷ bs) other = b ∷ bs
+unfoldable pub ownOr : Part → Part → Shown
+ownOr own other = cond (ltb 0 (own .size)) (ofFile own) (ofStanding other)
 
-unfoldable pub nameOf : Parsed Contents → List ℕ → ℕ → List ℕ
-nameOf (refused r) standing flow = []
-nameOf (parsed l at) standing flow = cond (ltb flow (l .counts .flows)) (ownOr (getD (l .names) flow []) (entry standing flow)) []
+unfoldable pub shownOf : Parsed Contents → List ℕ → ℕ → Shown
+shownOf (refused r) standing flow = ofStanding empty
+shownOf (parsed l at) standing flow = cond (ltb flow (l .counts .flows)) (ownOr (getD (l .names) flow empty) (entry standing flow)) (ofStanding empty)
+
+unfoldable pub shownPart : List ℕ → List ℕ → ℕ → Shown
+shownPart file standing flow = shownOf (contents file) standing flow
+
+-- its bytes, and its place by where the file and the standing list lie
+unfoldable pub shownBytes : List ℕ → List ℕ → Shown → List ℕ
+shownBytes file standing (ofFile p) = bytesIn file p
+shownBytes file standing (ofStanding p) = bytesIn standing p
+
+unfoldable pub shownPlace : ℕ × ℕ → ℕ × ℕ → Shown → ℕ × ℕ
+shownPlace file standing (ofFile p) = placeIn file p
+shownPlace file standing (ofStanding p) = placeIn standing p
 
 unfoldable pub shownName : List ℕ → List ℕ → ℕ → List ℕ
-shownName file standing flow = nameOf (contents file) standing flow
+shownName file standing flow = shownBytes file standing (shownPart file standing flow)
+
+pub record Shows (file standing : RefT (List ℕ)) (flow : ℕ) (r : RefT (List ℕ)) : Type 0 where
+  pub place : r .ptr ≡ shownPlace (file .ptr) (standing .ptr) (shownPart (now file) (now standing) flow)
+  pub bytes : now r ≡ shownName (now file) (now standing) flow

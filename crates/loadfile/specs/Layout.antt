@@ -4,7 +4,7 @@ use Prim.Native.Nat.{ℕ, zero, suc, _+_, _*_, _-_}
 use mathlib.Core.Bool.{Bool, true, false, cond, not, _&&_, _||_}
 use mathlib.Core.List.{List, [], _∷_}
 use lib.Dec.{eqb, leb, ltb}
-use lib.ListN.{length, getD, take, drop}
+use lib.ListN.{length, getD, drop}
 use Rattle.load.specs.declared.block.Block.{Block}
 use Rattle.load.specs.declared.counts.Counts.{Counts}
 use Rattle.load.specs.declared.refusal.Refusal.{Refusal}
@@ -15,6 +15,7 @@ use Rattle.load.specs.Refusals.{given}
 use Rattle.load.specs.Tests.{blockVerdict, countsVerdict}
 use Rattle.loadfile.specs.declared.record.Walk.{Walk}
 use Rattle.loadfile.specs.declared.record.Walk.the-variants.{At, Stopped}
+use Rattle.loadfile.specs.Parts.{Part, bytesIn}
 
 -- What was read and the byte after it, or the first refusal.
 pub data Parsed (A : Type 0) : Type 0 where
@@ -28,6 +29,11 @@ module _ {A B : Type 0} where
   after (parsed a at) next = next a at
 
 module _ {A : Type 0} where
+  -- go on past a record of so many bytes
+  unfoldable pub past : Walk → (ℕ → Parsed A) → Parsed A
+  past (Stopped r) next = refused r
+  past (At size) next = next size
+
   unfoldable pub onto : A → Parsed (List A) → Parsed (List A)
   onto a (refused r) = refused r
   onto a (parsed list at) = parsed (a ∷ list) at
@@ -73,21 +79,21 @@ unfoldable pub nameBytes : List ℕ → Bool
 nameBytes [] = true
 nameBytes (b ∷ bs) = leb 33 b && leb b 126 && nameBytes bs
 
--- the record's bytes without its length byte, where the next record starts at `next`
-unfoldable pub nameIn : List ℕ → ℕ → List ℕ
-nameIn rest next = take (next - 1) (drop 1 rest)
+-- the name in a record of so many bytes that starts at a byte of the slice: what follows the length byte
+unfoldable pub nameIn : ℕ → ℕ → Part
+nameIn at size = record { from = at + 1; size = size - 1 }
 
-unfoldable pub flowMeasured : List ℕ → Walk → Parsed (List ℕ)
-flowMeasured rest (Stopped r) = refused r
-flowMeasured rest (At next) = unless (given (not (nameBytes (nameIn rest next))) NameByte Accepted) (parsed (nameIn rest next) next)
+unfoldable pub flowMeasured : List ℕ → Walk → Walk
+flowMeasured rest (Stopped r) = Stopped r
+flowMeasured rest (At size) = stopIf (not (nameBytes (bytesIn rest (nameIn 0 size)))) NameByte (At size)
 
-unfoldable pub flowRecord : List ℕ → Parsed (List ℕ)
+unfoldable pub flowRecord : List ℕ → Walk
 flowRecord rest = flowMeasured rest (measure 0 31 rest)
 
--- so many flow records from a byte of the file on
-unfoldable pub flowRecords : List ℕ → ℕ → ℕ → Parsed (List (List ℕ))
+-- so many flow records from a byte of the file on, and the part of the file that is the name in each
+unfoldable pub flowRecords : List ℕ → ℕ → ℕ → Parsed (List Part)
 flowRecords s zero at = parsed [] at
-flowRecords s (suc k) at = after (flowRecord (drop at s)) (λ name size. onto name (flowRecords s k (at + size)))
+flowRecords s (suc k) at = past (flowRecord (drop at s)) (λ size. onto (nameIn at size) (flowRecords s k (at + size)))
 
 -- Then a record for each block: a length byte, 6 plus 4 times the stage count; two bytes of flow number; four of arrival; four
 -- for each stage time. Times of stages that the load lacks are 0.
@@ -121,7 +127,7 @@ blockRecords s c above (suc k) at =
 -- What a sound file holds.
 pub record Contents : Type 0 where
   pub counts : Counts
-  pub names : List (List ℕ)
+  pub names : List Part
   pub blocks : List Block
 
 -- Nothing follows the last record.

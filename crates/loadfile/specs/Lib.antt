@@ -1,3 +1,5 @@
+pub mod Parts
 pub mod Layout
 pub mod Answers
 pub mod Calls
+pub mod Examples

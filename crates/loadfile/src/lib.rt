@@ -8,7 +8,7 @@ mod table;
 mod walk;
 
 ghost use mathlib.Core.Path.{_≡_};
-ghost use Rattle.loadfile.specs.Calls.{Reads, shownName, soundness};
+ghost use Rattle.loadfile.specs.Calls.{Reads, Shows, soundness};
 use load::counts::Counts;
 use load::refusal::Refusal;
 use load::refusal::Verdict;
@@ -56,7 +56,7 @@ pub fn read(file: &[u8], table: &mut [u32]) -> Answer
 
 // The name call: the part of the file or of the standing list that is shown for a flow.
 pub fn name<'a>(file: &'a [u8], standing: &'a [u8], flow: usize) -> &'a [u8]
-    ensures { λ r. ⌜ now r ≡ shownName (now (file .entry)) (now (standing .entry)) flow ⌝ }
+    ensures { λ r. ⌜ Shows (file .entry) (standing .entry) flow r ⌝ }
 {
     let Verdict::Accepted = sound(file) else {
         return &standing[..0];

@@ -4,7 +4,7 @@ ghost use Prim.Native.Nat.{_+_, _*_, _≤_};
 ghost use lib.ListN.{length};
 ghost use Rattle.loadfile.specs.Layout.{blockIn, blockRecord, flowRecord, nameBytes, timeIn};
 ghost use Rattle.loadfile.specs.Layout.{measure as Layout·measure};
-ghost use Rattle.loadfile.specs.Answers.{blockFound, walkOf};
+ghost use Rattle.loadfile.specs.Answers.{blockFound};
 use crate::bytes::four;
 use crate::bytes::two;
 use load::block::Block;
@@ -62,7 +62,7 @@ fn printable(name: &[u8]) -> bool
 
 // A flow's record: 5, then 6.
 pub fn flow(rest: &[u8]) -> Walk
-    ensures { λ r. ⌜ r ≡ walkOf (flowRecord (now (rest .entry))) ⌝ }
+    ensures { λ r. ⌜ r ≡ flowRecord (now (rest .entry)) ⌝ }
 {
     let measured = measure(rest, 0, 31);
     let Walk::At(next) = measured else {

@@ -1,10 +1,10 @@
 // The standing list of names that a caller lends: length byte, name, repeated.
-ghost use mathlib.Core.Path.{_≡_};
 ghost use Rattle.loadfile.specs.Calls.{entry as Calls·entry};
+ghost use Rattle.loadfile.specs.Parts.{IsPart};
 
 // The entry with this number, or the empty part at the list's start where the list ends before the entry's last byte.
 pub fn entry(list: &[u8], number: usize) -> &[u8]
-    ensures { λ r. ⌜ now r ≡ Calls·entry (now (list .entry)) number ⌝ }
+    ensures { λ r. ⌜ IsPart (list .entry) (Calls·entry (now (list .entry)) number) r ⌝ }
 {
     let mut at = 0;
     let mut left = number;

@@ -4,6 +4,7 @@ ghost use Prim.Native.Nat.{_≤_};
 ghost use lib.ListN.{length};
 ghost use Rattle.loadfile.specs.Layout.{blockRecords, flowRecords};
 ghost use Rattle.loadfile.specs.Answers.{bodyWalk, ownName, walkOf};
+ghost use Rattle.loadfile.specs.Parts.{IsPart};
 use crate::record;
 use crate::record::Found;
 use crate::record::Walk;
@@ -75,10 +76,10 @@ pub fn body(file: &[u8], counts: Counts) -> Walk
     }
 }
 
-// The name bytes of a flow's record in a sound file.
+// The name in a flow's record of a sound file: the part of the file after the record's length byte.
 pub fn own_name(file: &[u8], flow: usize) -> &[u8]
     requires { ⌜ 10 ≤ length (now file) ⌝ }
-    ensures { λ r. ⌜ now r ≡ ownName (now (file .entry)) flow ⌝ }
+    ensures { λ r. ⌜ IsPart (file .entry) (ownName (now (file .entry)) flow) r ⌝ }
 {
     let Walk::At(at) = flows(file, flow) else {
         return &file[..0];

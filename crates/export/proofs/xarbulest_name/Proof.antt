@@ -9,7 +9,7 @@ name-requires c κs = search needs
 
 returns : tie.Need-returns
 returns c =
-    name-too-long _ _ _ _ _ (c .before .name .ensures) (c .if1 .taken)
+    name-too-long _ _ _ _ _ (c .before .name .ensures .bytes) (c .if1 .taken)
 
 copy-requires : tie.Need-copy-requires
 copy-requires c κs = search needs
@@ -20,7 +20,7 @@ same-length c = search needs
 returns-2 : tie.Need-returns-2
 returns-2 c =
     let copied = c .before .before .copy .ensures in
-    rw (copied .0, copied .1) (name-copied _ _ _ _ _ (c .before .before .before .before .before .name .ensures) (c .before .before .before .before .if1 .left))
+    rw (copied .0, copied .1) (name-copied _ _ _ _ _ (c .before .before .before .before .before .name .ensures .bytes) (c .before .before .before .before .if1 .left))
 
 pub xarbulest-name-spec : {M : Type 1} → statement M
 xarbulest-name-spec =

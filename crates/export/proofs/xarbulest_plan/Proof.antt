@@ -54,7 +54,6 @@ use Rattle.mr3.proofs.Relend.{relends, unlends}
 use Rattle.mr3.proofs.plan.Symbol as plan-def
 use Rattle.mr3.proofs.plan.Symbol.{name as #plan}
 use Rattle.mr3.proofs.plan.Met as plan-thm
-use Rattle.export.specs.Calls.{PlansInWords}
 use Rattle.export.proofs.PutCall.{Put, Six, Numbered, wordsOf, to-put, goes-put, gives-put, relends-ref, unlends-ref}
 use Rattle.export.proofs.words.put_plan.Symbol as put-def
 use Rattle.export.proofs.words.put_plan.Symbol.{name as #put}

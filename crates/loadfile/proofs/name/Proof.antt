@@ -1,8 +1,10 @@
--- `loadfile::name` meets its contract: each return is a case of the name shown, by the soundness call's verdict, the flow count and the own name's length.
-use mathlib.Core.Path.{sym, _∙_}
+-- `loadfile::name` meets its contract: each return is a case of the part shown, by the soundness call's verdict, the flow count and the own name's length.
+use mathlib.Core.Path.{refl, sym, _∙_}
+use native.Mathlib.Omega.{arith}
 use borrow.Author.Needs.{needs}
 use Rattle.loadfile.proofs.Files.{header-good}
-use Rattle.loadfile.proofs.Shown.{shown-absent, shown-entry, shown-own, shown-unsound, sound-header}
+use Rattle.loadfile.proofs.Parts.{is-part, part-length}
+use Rattle.loadfile.proofs.Shown.{shown-absent, shown-entry, shown-own, shown-unsound, shows-file, shows-standing, sound-header}
 use Rattle.loadfile.proofs.name.Statement.{statement}
 use Rattle.loadfile.proofs.name.Tie as tie
 
@@ -19,7 +21,10 @@ slice-aggregate-result : tie.Need-slice-aggregate-result
 slice-aggregate-result c = search needs
 
 returns : tie.Need-returns
-returns c = sym (shown-unsound _ _ _ _ (sym (c .before .before .before .sound .ensures) ∙ c .before .enum-told2 .given .1))
+returns c =
+    shows-standing _ _ _ _ _
+    (shown-unsound _ _ _ _ (sym (c .before .before .before .sound .ensures) ∙ c .before .enum-told2 .given .1))
+    (is-part _ _ _ 0 0 refl (omega arith) refl (omega arith) refl)
 
 counts-requires : tie.Need-counts-requires
 counts-requires c κs = header-good _ (sound-header _ (sym (c .before .before .sound .ensures) ∙ c .enum-told .given .1)) .long
@@ -31,7 +36,8 @@ returns-2 : tie.Need-returns-2
 returns-2 c =
     let k = c .before .before .before in
     let sound = sym (k .before .before .before .sound .ensures) ∙ k .before .enum-told .given .1 in
-    sym (shown-absent _ _ _ _ (k .counts .ensures) sound (c .before .if1 .taken))
+    shows-standing _ _ _ _ _ (shown-absent _ _ _ _ (k .counts .ensures) sound (c .before .if1 .taken))
+    (is-part _ _ _ 0 0 refl (omega arith) refl (omega arith) refl)
 
 own-name-requires : tie.Need-own-name-requires
 own-name-requires c κs =
@@ -42,7 +48,10 @@ returns-3 : tie.Need-returns-3
 returns-3 c =
     let k = c .before .before .before .before in
     let sound = sym (k .before .before .before .sound .ensures) ∙ k .before .enum-told .given .1 in
-    sym (shown-own _ _ _ _ (k .counts .ensures) sound (c .before .before .if1 .left) _ (c .before .own-name .ensures) (c .if2 .taken))
+    let own = c .before .own-name .ensures in
+    shows-file _ _ _ _ _
+    (shown-own _ _ _ _ (k .counts .ensures) sound (c .before .before .if1 .left) (omega (arith, part-length _ _ _ own)))
+    own
 
 entry-requires : tie.Need-entry-requires
 entry-requires c κs = search needs
@@ -51,8 +60,10 @@ returns-4 : tie.Need-returns-4
 returns-4 c =
     let k = c .before .before .before .before .before in
     let sound = sym (k .before .before .before .sound .ensures) ∙ k .before .enum-told .given .1 in
-    c .entry .ensures
-    ∙ sym (shown-entry _ _ _ _ (k .counts .ensures) sound (c .before .before .before .if1 .left) _ (c .before .before .own-name .ensures) (c .before .if2 .left))
+    let own = c .before .before .own-name .ensures in
+    shows-standing _ _ _ _ _
+    (shown-entry _ _ _ _ (k .counts .ensures) sound (c .before .before .before .if1 .left) (omega (arith, part-length _ _ _ own)))
+    (c .entry .ensures)
 
 pub name-spec : {M : Type 1} → statement M
 name-spec =

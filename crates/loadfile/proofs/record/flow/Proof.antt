@@ -2,9 +2,8 @@
 use mathlib.Core.Path.{sym, _∙_}
 use native.Mathlib.Omega.{arith}
 use borrow.Author.Needs.{needs}
-use Rattle.load.specs.Refusals.{given}
-use Rattle.loadfile.specs.Answers.{walkOf}
-use Rattle.loadfile.specs.Layout.{flowMeasured, flowRecord, nameIn, unless}
+use Rattle.loadfile.specs.Layout.{flowMeasured, flowRecord, nameIn, stopIf}
+use Rattle.loadfile.specs.Parts.{bytesIn}
 use Rattle.loadfile.proofs.Records.{measure-within}
 use Rattle.loadfile.proofs.record.flow.Statement.{statement}
 use Rattle.loadfile.proofs.record.flow.Tie as tie
@@ -19,7 +18,7 @@ enum-told : tie.Need-enum-told
 enum-told c = search needs
 
 returns : tie.Need-returns
-unfolding flowRecord flowMeasured walkOf
+unfolding flowRecord flowMeasured
 returns c = simp (← (c .before .before .measure .ensures), c .enum-told .given .1)
 
 sub-printable : tie.Need-sub-printable
@@ -38,7 +37,7 @@ printable-requires : tie.Need-printable-requires
 printable-requires c κs = search needs
 
 returns-2 : tie.Need-returns-2
-unfolding flowRecord flowMeasured nameIn unless given walkOf
+unfolding flowRecord flowMeasured bytesIn nameIn stopIf
 returns-2 c =
     simp (
       ← (c .before .before .before .before .before .before .measure .ensures),
@@ -48,7 +47,7 @@ returns-2 c =
     )
 
 returns-3 : tie.Need-returns-3
-unfolding flowRecord flowMeasured nameIn unless given walkOf
+unfolding flowRecord flowMeasured bytesIn nameIn stopIf
 returns-3 c =
     simp (
       ← (c .before .before .before .before .before .before .measure .ensures),

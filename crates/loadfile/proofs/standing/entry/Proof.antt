@@ -1,17 +1,18 @@
 -- `loadfile::standing::entry` meets its contract: at each turn the entry so many places on, from the byte reached, is the entry asked for.
 use Prim.Native.Nat.{_≤_, _+_}
-use mathlib.Core.Path.{_≡_, sym, _∙_}
+use mathlib.Core.Path.{_≡_, refl, sym, _∙_}
 use native.Mathlib.Nat.{add-sub-cancel-left}
 use native.Mathlib.Omega.{arith}
 use borrow.Author.Needs.{needs}
-use lib.ListN.{length, drop}
-use Rattle.loadfile.specs.Calls.{entry}
+use lib.ListN.{length}
+use Rattle.loadfile.specs.Calls.{entry, entryFrom}
 use Rattle.loadfile.proofs.Names.{entry-ended, entry-here, entry-short, entry-next}
+use Rattle.loadfile.proofs.Parts.{is-part}
 use Rattle.loadfile.proofs.standing.entry.Statement.{statement}
 use Rattle.loadfile.proofs.standing.entry.Tie as tie
 
 abbrev Inv-loop : tie.InvT-loop
-Inv-loop list number at₀ left₀ at left = (at ≤ length list + 256) × (entry (drop at list) left ≡ entry list number)
+Inv-loop list number at₀ left₀ at left = (at ≤ length list + 256) × (entryFrom list at left ≡ entryFrom list 0 number)
 
 abbrev μ-loop : tie.MeasureT-loop
 μ-loop list number at₀ left₀ at left = left
@@ -23,7 +24,10 @@ slice-aggregate-result : tie.Need-slice-aggregate-result Inv-loop μ-loop
 slice-aggregate-result c = search needs
 
 returns : tie.Need-returns Inv-loop μ-loop
-returns c = sym (entry-ended _ _ _ (c .before .if1 .taken)) ∙ c .before .before .before .loop .inv .1
+unfolding entry
+returns c =
+    is-part _ _ _ 0 0 (sym (c .before .before .before .loop .inv .1) ∙ entry-ended _ _ _ (c .before .if1 .taken))
+    (omega arith) refl (omega arith) refl
 
 shared-slice-read-at : tie.Need-shared-slice-read-at Inv-loop μ-loop
 shared-slice-read-at c = omega arith
@@ -54,7 +58,10 @@ slice-aggregate-result-2 : tie.Need-slice-aggregate-result-2 Inv-loop μ-loop
 slice-aggregate-result-2 c = search needs
 
 returns-2 : tie.Need-returns-2 Inv-loop μ-loop
-returns-2 c = sym (entry-ended _ _ _ (c .before .if2 .taken)) ∙ c .before .before .before .loop .inv .1
+unfolding entry
+returns-2 c =
+    is-part _ _ _ 0 0 (sym (c .before .before .before .loop .inv .1) ∙ entry-ended _ _ _ (c .before .if2 .taken))
+    (omega arith) refl (omega arith) refl
 
 add-start : tie.Need-add-start Inv-loop μ-loop
 add-start c = omega arith
@@ -72,9 +79,11 @@ slice-aggregate-result-3 : tie.Need-slice-aggregate-result-3 Inv-loop μ-loop
 slice-aggregate-result-3 c = search needs
 
 returns-3 : tie.Need-returns-3 Inv-loop μ-loop
+unfolding entry
 returns-3 c =
     let k = c .before .before .before .before in
-    sym (entry-short _ _ _ (k .loop-test .left) (c .before .if3 .taken)) ∙ k .before .loop .inv .1
+    is-part _ _ _ 0 0 (sym (k .before .loop .inv .1) ∙ entry-short _ _ _ (k .loop-test .left) (c .before .if3 .taken))
+    (omega arith) refl (omega arith) refl
 
 sub-result : tie.Need-sub-result Inv-loop μ-loop
 sub-result c = omega arith
@@ -86,10 +95,11 @@ part-result-end : tie.Need-part-result-end Inv-loop μ-loop
 part-result-end c = omega arith
 
 returns-4 : tie.Need-returns-4 Inv-loop μ-loop
+unfolding entry
 returns-4 c =
     let k = c .before .before .before .before in
-    rw add-sub-cancel-left
-    (sym (entry-here _ _ _ (k .loop-test .left) (c .before .if3 .left)) ∙ k .before .loop .inv .1)
+    is-part _ _ _ _ _ (sym (k .before .loop .inv .1) ∙ entry-here _ _ _ (k .loop-test .left) (c .before .if3 .left))
+    (omega arith) refl (omega arith) (rw add-sub-cancel-left)
 
 pub entry-spec : {M : Type 1} → statement M
 entry-spec =

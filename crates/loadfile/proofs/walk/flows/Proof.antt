@@ -19,7 +19,7 @@ abbrev μ-loop : tie.MeasureT-loop
 μ-loop file count at₀ left₀ at left = left
 
 -- the record at the byte reached is read
-read : (c : tie.After-known-told2 Inv-loop μ-loop) → let k = c .before .before .before .before .before .before in walkOf (flowRecord (drop (k .loop .at) ((k .before .before .args .file .now)))) ≡ At (c .before .size .given .0 .0)
+read : (c : tie.After-known-told2 Inv-loop μ-loop) → let k = c .before .before .before .before .before .before in flowRecord (drop (k .loop .at) (k .before .before .args .file .now)) ≡ At (c .before .size .given .0 .0)
 read c = sym (rw part-rest at (c .before .before .before .flow .ensures)) ∙ c .before .size .given .1
 
 loop-holds : tie.Need-loop-holds Inv-loop μ-loop

@@ -1,12 +1,15 @@
--- `loadfile::walk::own_name` meets its contract: the walk over the records above gives the record's place, and measuring it the name's end.
-use mathlib.Core.Path.{_≡_, sym, _∙_}
+-- `loadfile::walk::own_name` meets its contract: the walk over the records above gives the record's place, and measuring it the name's end. The name is a part of a part, so its place is the sum.
+use Prim.Native.Nat.{_+_, _-_}
+use mathlib.Core.Path.{_≡_, refl, sym, _∙_}
 use native.Mathlib.Omega.{arith}
 use borrow.Author.Needs.{needs}
 use lib.ListN.{drop, length-drop}
+use lib.Seq.{drop-drop}
 use Rattle.load.proofs.Parts.{part-rest}
 use Rattle.loadfile.specs.declared.record.Walk.the-variants.{At}
 use Rattle.loadfile.specs.Answers.{nameAfter, nameAt, ownName}
 use Rattle.loadfile.specs.Layout.{measure, nameIn}
+use Rattle.loadfile.proofs.Parts.{is-part}
 use Rattle.loadfile.proofs.Records.{measure-within}
 use Rattle.loadfile.proofs.Walks.{flows-within}
 use Rattle.loadfile.proofs.walk.own_name.Statement.{statement}
@@ -30,7 +33,9 @@ slice-aggregate-result c = search needs
 
 returns : tie.Need-returns
 unfolding ownName nameAfter
-returns c = simp (← (c .before .before .before .flows .ensures), c .before .enum-told .given .1)
+returns c =
+    is-part _ _ _ 0 0 (simp (← (c .before .before .before .flows .ensures), c .before .enum-told .given .1))
+    (omega arith) refl (omega arith) refl
 
 sub-rest : tie.Need-sub-rest
 sub-rest c =
@@ -58,12 +63,10 @@ slice-aggregate-result-2 c = search needs
 returns-2 : tie.Need-returns-2
 unfolding ownName nameAfter nameAt
 returns-2 c =
-    simp (
-      ← (c .before .before .before .before .before .before .before .before .flows .ensures),
-      c .before .before .before .before .before .before .at .given .1,
-      ← (rw part-rest at (c .before .before .before .measure .ensures)),
-      c .before .enum-told2 .given .1,
-    )
+    let k = c .before .before .before .before .before .before in
+    is-part _ _ _ 0 0
+    (simp (← (k .before .before .flows .ensures), k .at .given .1, ← (rw part-rest at (c .before .before .before .measure .ensures)), c .before .enum-told2 .given .1))
+    (omega arith) refl (omega arith) refl
 
 sub-result : tie.Need-sub-result
 sub-result c = omega (arith, measure-within _ _ _ _ (measured c))
@@ -78,12 +81,13 @@ part-result-end c = let k = c .before .before .before .before .before .before in
 returns-3 : tie.Need-returns-3
 unfolding ownName nameAfter nameAt nameIn
 returns-3 c =
-    simp (
-      part-rest,
-      ← (c .before .before .before .before .before .before .before .before .before .flows .ensures),
-      c .before .before .before .before .before .before .before .at .given .1,
-      measured (c .before),
-    )
+    let k = c .before .before .before .before .before .before .before in
+    let at = k .at .given .0 .0 in
+    let within = measure-within _ _ _ _ (measured (c .before)) in
+    is-part _ _ _ (at + 1) (c .before .before .next .given .0 .0 - 1)
+    (simp (← (k .before .before .flows .ensures), k .at .given .1, measured (c .before)))
+    (omega (arith, length-drop at (k .before .before .before .before .args .file .now)))
+    refl (omega arith) (simp (part-rest, drop-drop))
 
 pub own-name-spec : {M : Type 1} → statement M
 own-name-spec =
