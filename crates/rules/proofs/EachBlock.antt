@@ -1,6 +1,7 @@
 -- The rows of a plan and the blocks of its load. Of any plan of an accepted load each row is of its block, and no block is listed
 -- twice: a block that starts was not started before, and from then on is. A whole plan has as many rows as the load has blocks, so
--- each block is listed once, and a sum over its rows is a sum over the blocks.
+-- each block is listed once, and a sum over its rows is a sum over the blocks. The finish at the last stage only rises from row to
+-- row, so no run at a dominant stage lies after the plan's end.
 use Prim.Native.Nat.{ℕ, zero, suc, _+_, _≤_, _<_, min}
 use mathlib.Core.List.{List}
 use mathlib.Core.Path.{_≡_, refl, sym}
@@ -12,15 +13,16 @@ use Rattle.load.specs.declared.counts.Counts.{Counts}
 use Rattle.load.specs.declared.refusal.Verdict.the-variants as verdict
 use Rattle.load.proofs.Cases.{cases}
 use Rattle.load.proofs.DominantStage.{dominant-time}
+use Rattle.rules.specs.declared.answer.Summary.{Summary}
 use Rattle.rules.specs.declared.row.Row.{Row}
 use Rattle.rules.specs.Calls.{planVerdict}
-use Rattle.rules.specs.Counts.{one}
-use Rattle.rules.specs.EachBlock.{EachBlockOnce, EachRow, OfItsBlock, sumBelow, sumOf, timesListed}
+use Rattle.rules.specs.Counts.{counted, none, one, summary}
+use Rattle.rules.specs.EachBlock.{dominantRun, EachBlockOnce, EachRow, OfItsBlock, sumBelow, sumOf, timesListed}
 use Rattle.rules.specs.Load.{Load, blockAt, loadOf}
 use Rattle.rules.specs.Plan.{State, origin, plan, run}
 use Rattle.rules.proofs.Accepting.{accepted}
 use Rattle.rules.proofs.Blocks.{dominant-within}
-use Rattle.rules.proofs.Starts.{accepted-sound, Sound}
+use Rattle.rules.proofs.Starts.{accepted-sound, endOf, Sound}
 use Rattle.rules.proofs.Steps.{Good, origin-good, run-next, stepped}
 use Rattle.rules.proofs.Sums.{all-one, each-sum, rows-listed}
 use Rattle.rules.proofs.Unstarted.{flowAt, startedAt}
@@ -67,6 +69,21 @@ module _ (L : Load) (M : ℕ) (ok : Sound L M) where
       rw e (omega (arith, later, left, passed)))
       (λ e. rw e (omega (arith, later, made .rises (flowAt L i)))))
 
+  -- the end so far only rises, so no run lies after that of the last row
+  abbrev ByEnd : Summary → List Row → Type 0
+  ByEnd a rs = let end = summary (L .counts .stages) a rs .end in (a .end ≤ end) × EachRow (λ r. dominantRun r .finish ≤ end) rs
+
+  runs-by-end : (n k : ℕ) (s : State) (a : Summary) → k + n ≤ L .counts .blocks → Good L M ok k s → a .end ≤ endOf L M ok (s .core .way) → ByEnd a (run L n s)
+  unfolding EachRow counted run summary
+  runs-by-end zero k s a h g before = (omega arith, tt)
+  runs-by-end (suc n) k s a h g before =
+      run-next L n s (ByEnd a) (omega arith, tt)
+      (λ q is.
+      let next = stepped L M ok k s q (omega arith) g is in
+      let made = next .made in
+      let later = runs-by-end n (k + 1) (q .then) (counted (L .counts .stages) a (q .row)) (omega arith) (next .good) (omega (arith, made .ends)) in
+      (omega (arith, before, made .ticks, later .0), (omega (arith, made .by-end, later .0), later .1)))
+
 module _ (c : Counts) (n : ℕ) (table : List ℕ) (flowRecords rowWords : ℕ) (e : planVerdict c n table flowRecords rowWords ≡ verdict.Accepted) where
   abbrev L : Load
   L = loadOf c table
@@ -82,6 +99,10 @@ module _ (c : Counts) (n : ℕ) (table : List ℕ) (flowRecords rowWords : ℕ) 
   pub plan-no-block-twice : (i : ℕ) → timesListed i (plan L n) ≤ 1
   unfolding plan
   plan-no-block-twice i = omega (arith, listed-once L 10_000_000 sound i (min n (c .blocks)) 0 (origin L) (omega arith) (origin-good L 10_000_000 sound))
+
+  pub plan-by-its-end : EachRow (λ r. dominantRun r .finish ≤ summary (c .stages) none (plan L n) .end) (plan L n)
+  unfolding none plan
+  plan-by-its-end = runs-by-end L 10_000_000 sound (min n (c .blocks)) 0 (origin L) none (omega arith) (origin-good L 10_000_000 sound) (omega arith) .1
 
   -- with a limit that covers all blocks
   module _ (all : c .blocks ≤ n) where

@@ -70,6 +70,7 @@ module _ (L : Load) (M : ℕ) (ok : Sound L M) where
     pub rises : (f : ℕ) → getD from f 0 ≤ getD (q .then .core .from) f 0
     pub stage : q .row .stage ≡ dominantStage (ownBlock L (q .row))
     pub takes : dominantRun (q .row) .finish ≡ dominantRun (q .row) .start + dominantTime (ownBlock L (q .row))
+    pub by-end : dominantRun (q .row) .finish ≤ endOf (q .row .way)
     pub goes-on : q .row .way .one .start ≤ q .then .core .clock
     pub ends : endOf (q .then .core .way) ≡ endOf (q .row .way)
     pub turns : q .then .core .turns ≡ q .row .turn
@@ -105,6 +106,7 @@ module _ (L : Load) (M : ℕ) (ok : Sound L M) where
           rises = λ f. set-cases (λ (v : ℕ). getD (c .from) f 0 ≤ v) (c .from) (t .flow) f (place + 1) room (λ same. rw (← same) (omega (arith, oldest-from L c (t .flow)))) (omega arith);
           stage = refl;
           takes = rw (dominant .2) at (run .takes);
+          by-end = run .ends;
           goes-on = omega arith;
           ends = refl;
           turns = refl;

@@ -71,12 +71,13 @@ holdsWith room e =
     (joined (e .records) ++ recordWords (markedRecords room))
     (joined (e .rows) ++ markedWords room)
 
+-- each with tables that just suffice, and with room beyond
 unfoldable pub allHold : List Example → Bool
 allHold [] = true
 allHold (e ∷ es) = holdsWith 0 e && holdsWith 2 e && allHold es
 
 -- A call that is refused: the number, and what it is asked and lent.
-pub record Refusal : Type 0 where
+pub record RefusedCall : Type 0 where
   pub number : ℕ
   pub load : Load
   pub limit : ℕ
@@ -84,7 +85,7 @@ pub record Refusal : Type 0 where
   pub rowWords : ℕ
 
 -- It gives counts of 0, and both tables are as before.
-unfoldable pub allRefused : List Refusal → Bool
+unfoldable pub allRefused : List RefusedCall → Bool
 allRefused [] = true
 allRefused (r ∷ rs) =
     gives (r .load) (r .limit) (r .flowRecords) (r .rowWords) (r .number) (0 ∷ 0 ∷ 0 ∷ 0 ∷ 0 ∷ 0 ∷ [])
@@ -546,7 +547,7 @@ asked stages flows blocks words =
     record { counts = record { stages = stages; flows = flows; blocks = blocks }; table = take words (joined (E2 .blocks)) }
 
 -- a block below one that arrives at 5, and above one whose times are all 0
-unfoldable pub fault : ℕ → List ℕ → Refusal
+unfoldable pub fault : ℕ → List ℕ → RefusedCall
 fault number block = record {
   number = number;
   load = record { counts = record { stages = 2; flows = 2; blocks = 3 }; table = joined ((0 ∷ 5 ∷ 1 ∷ 3 ∷ 0 ∷ 0 ∷ []) ∷ block ∷ (0 ∷ 1_000_000_000 ∷ 0 ∷ 0 ∷ 0 ∷ 0 ∷ []) ∷ []) };
@@ -557,7 +558,7 @@ fault number block = record {
 
 -- The first that applies is given: most would be refused by a later test too. 64 flows and 1,024 blocks are refused by 7 alone, and the
 -- last block is at its limits, so that the one below it is refused.
-unfoldable pub refusals : List Refusal
+unfoldable pub refusals : List RefusedCall
 refusals =
     record { number = 3; load = asked 0 65 4 24; limit = 4; flowRecords = 2; rowWords = 60 }
     ∷ record { number = 3; load = asked 5 2 4 24; limit = 4; flowRecords = 2; rowWords = 60 }
