@@ -1,5 +1,5 @@
--- The name shown for a flow, from the soundness call's verdict: nothing for an unsound file or an absent flow, and otherwise
--- the flow's own name or the standing list's entry.
+-- The part shown for a flow, from the soundness call's verdict: the empty part at the standing list's start for an unsound file or
+-- an absent flow, and otherwise the flow's own name or the standing list's entry.
 use Prim.Native.Nat.{ℕ, _≤_, _<_}
 use mathlib.Core.List.{List}
 use mathlib.Core.Path.{_≡_, refl, _∙_}
