@@ -473,6 +473,24 @@ last-of-64 = record {
   counts = 3 ∷ 3 ∷ 3 ∷ 1 ∷ 9 ∷ 31 ∷ [];
 }
 
+-- Of equal times at later stages the lowest numbered stage is dominant too.
+unfoldable pub equal-later : Example
+equal-later = record {
+  stages = 3;
+  flows = 1;
+  blocks =
+      (0 ∷ 0 ∷ 1 ∷ 3 ∷ 3 ∷ 0 ∷ [])
+      ∷ [];
+  limit = 18446744073709551615;
+  rows =
+      (0 ∷ 0 ∷ 1 ∷ 1 ∷ 0 ∷ 0 ∷ 2 ∷ 0 ∷ 1 ∷ 1 ∷ 4 ∷ 4 ∷ 7 ∷ 0 ∷ 0 ∷ [])
+      ∷ [];
+  records =
+      (1 ∷ 1 ∷ 3 ∷ [])
+      ∷ [];
+  counts = 1 ∷ 1 ∷ 1 ∷ 0 ∷ 0 ∷ 7 ∷ [];
+}
+
 -- The planner runs empty and goes on at the next arrival; the excess of a flow that left is forgotten.
 unfoldable pub idle-again : Example
 idle-again = record {
@@ -559,7 +577,7 @@ four-stages = record {
 
 unfoldable pub examples : List Example
 examples =
-    E1 ∷ E2 ∷ E3 ∷ E4 ∷ E5 ∷ E6 ∷ E7 ∷ E8 ∷ E9 ∷ E10 ∷ E10-none ∷ E11 ∷ zero-goes-on ∷ excess-of-the-round-before ∷ arrival-at-the-finish ∷ held-one-tick ∷ last-of-64 ∷ idle-again ∷ three-stages ∷ four-stages ∷ []
+    E1 ∷ E2 ∷ E3 ∷ E4 ∷ E5 ∷ E6 ∷ E7 ∷ E8 ∷ E9 ∷ E10 ∷ E10-none ∷ E11 ∷ zero-goes-on ∷ excess-of-the-round-before ∷ arrival-at-the-finish ∷ held-one-tick ∷ last-of-64 ∷ equal-later ∷ idle-again ∷ three-stages ∷ four-stages ∷ []
 
 -- any counts, with so many of the 24 words of E2's blocks
 unfoldable pub asked : ℕ → ℕ → ℕ → ℕ → Load
@@ -574,6 +592,16 @@ fault number block = record {
   limit = 3;
   flowRecords = 2;
   rowWords = 45;
+}
+
+-- one block, with a time at a stage that the load lacks
+unfoldable pub lacking : ℕ → List ℕ → RefusedCall
+lacking stages block = record {
+  number = 9;
+  load = record { counts = record { stages = stages; flows = 1; blocks = 1 }; table = block };
+  limit = 1;
+  flowRecords = 1;
+  rowWords = 15;
 }
 
 -- The first that applies is given: most would be refused by a later test too. 64 flows and 1,024 blocks are refused by 7 alone, and the
@@ -596,4 +624,6 @@ refusals =
     ∷ fault 10 (1 ∷ 4 ∷ 0 ∷ 0 ∷ 0 ∷ 0 ∷ [])
     ∷ fault 11 (1 ∷ 4 ∷ 1 ∷ 3 ∷ 0 ∷ 0 ∷ [])
     ∷ fault 10 (1 ∷ 1_000_000_000 ∷ 10_000_000 ∷ 10_000_000 ∷ 0 ∷ 0 ∷ [])
+    ∷ lacking 1 (0 ∷ 0 ∷ 1 ∷ 1 ∷ 0 ∷ 0 ∷ [])
+    ∷ lacking 3 (0 ∷ 0 ∷ 1 ∷ 0 ∷ 0 ∷ 1 ∷ [])
     ∷ []
