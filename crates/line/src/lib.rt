@@ -3,6 +3,7 @@
 ghost use Prim.Native.Nat.{min};
 ghost use mathlib.Core.List.{[], _∷_};
 ghost use mathlib.Core.Path.{_≡_};
+ghost use lib.ListN.{replicate};
 ghost use Rattle.io.specs.Digits.{digits};
 ghost use Rattle.line.specs.Numerals.{decimalOf, hexOf};
 ghost use Rattle.line.specs.Pages.{Put, room};
@@ -11,7 +12,9 @@ use libc::STDOUT_FILENO;
 // Room for the listing of a load: 512 lines of at most 326 bytes, and the line of the counts.
 pub type Page = [u8; 196_608];
 
-pub fn empty() -> Page {
+pub fn empty() -> Page
+    ensures { λ r. ⌜ r ≡ replicate room 0 ⌝ }
+{
     [0; 196_608]
 }
 
