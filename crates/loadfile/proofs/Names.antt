@@ -17,14 +17,14 @@ use Rattle.loadfile.proofs.Records.{flow-record-reads}
 use Rattle.loadfile.proofs.Walks.{flows-end, flows-next}
 
 -- a walk over flows that is read: the first record, and the walk over the others
-record FlowsRead (s : List ℕ) (k at end : ℕ) (names : List Part) : Type 0 where
-  others : List Part
-  size : ℕ
-  first : flowRecord (drop at s) ≡ At size
-  rest : flowRecords s k (at + size) ≡ parsed others end
-  all : names ≡ nameIn at size ∷ others
+pub record FlowsRead (s : List ℕ) (k at end : ℕ) (names : List Part) : Type 0 where
+  pub others : List Part
+  pub size : ℕ
+  pub first : flowRecord (drop at s) ≡ At size
+  pub rest : flowRecords s k (at + size) ≡ parsed others end
+  pub all : names ≡ nameIn at size ∷ others
 
-flows-read : (s : List ℕ) (k at end : ℕ) (names : List Part) → flowRecords s (suc k) at ≡ parsed names end → FlowsRead s k at end names
+pub flows-read : (s : List ℕ) (k at end : ℕ) (names : List Part) → flowRecords s (suc k) at ≡ parsed names end → FlowsRead s k at end names
 unfolding flowRecords past onto
 flows-read s k at end names e = go (flowRecord (drop at s)) refl e where
   rest : (size : ℕ) → flowRecord (drop at s) ≡ At size → (q : Parsed (List Part)) → flowRecords s k (at + size) ≡ q → onto (nameIn at size) q ≡ parsed names end → FlowsRead s k at end names

@@ -17,9 +17,10 @@ use Rattle.load.proofs.Cases.{given-accepted}
 use Rattle.loadfile.specs.declared.record.Walk.{Walk}
 use Rattle.loadfile.specs.declared.record.Walk.the-variants.{At, Stopped}
 use Rattle.loadfile.specs.Calls.{ofFile, ofStanding, contents, entry, ownOr, shownBytes, shownName, shownOf, shownPart, tableWords}
-use Rattle.loadfile.specs.Layout.{Parsed, refused, parsed, Contents, after, onto, blockMeasured, blockRecord, blockRecords, countsIn, fileWith, flowRecord, flowRecords, headerVerdict, measure, nameIn, past, records, whole}
+use Rattle.loadfile.specs.Layout.{Parsed, refused, parsed, Contents, after, onto, blockMeasured, blockRecord, blockRecords, countsIn, fileWith, flowRecords, headerVerdict, measure, nameIn, records, whole}
 use Rattle.loadfile.specs.Parts.{Part, bytesIn, empty}
 use Rattle.loadfile.proofs.Body.{held}
+use Rattle.loadfile.proofs.Names.{flows-read}
 use Rattle.loadfile.proofs.Records.{flow-record-reads, measure-within, unless-passed}
 
 -- what was read in two steps was read in each, and what a test let pass was accepted
@@ -38,11 +39,6 @@ onto-reads : {A : Type 0} (a : A) (p : Parsed (List A)) (list : List A) (end : �
 unfolding onto
 onto-reads a (refused r) list end e = let z : _≡_ {A = ℕ} 0 1 = cc in absurd (omega arith)
 onto-reads a (parsed rest at) list end e = (rest, cc, cc)
-
-past-reads : {A : Type 0} (w : Walk) (next : ℕ → Parsed A) (a : A) (end : ℕ) → past w next ≡ parsed a end → (size : ℕ) × (w ≡ At size) × (next size ≡ parsed a end)
-unfolding past
-past-reads (Stopped r) next a end e = let z : _≡_ {A = ℕ} 0 1 = cc in absurd (omega arith)
-past-reads (At size) next a end e = (size, refl, e)
 
 -- a block that is read passed its tests
 pub block-passed : (c : Counts) (above : ℕ) (rest : List ℕ) (b : Block) (size : ℕ) → blockRecord c above rest ≡ parsed b size → blockVerdict c above b ≡ Accepted
@@ -84,10 +80,9 @@ names-short : (s : List ℕ) (k at : ℕ) (names : List Part) (end : ℕ) → fl
 unfolding flowRecords nameIn
 names-short s zero at names end e flow = let none : names ≡ [] = cc in rw none (omega arith)
 names-short s (suc k) at names end e flow =
-    let r = past-reads (flowRecord (drop at s)) _ _ _ e in
-    let within = measure-within 0 31 (drop at s) (r .0) (flow-record-reads (drop at s) (r .0) (r .1)) in
-    let o = onto-reads (nameIn at (r .0)) _ _ _ (r .2) in
-    rw (o .2) (both-short (nameIn at (r .0)) (o .0) flow (omega arith) (names-short s k (at + r .0) (o .0) end (o .1)))
+    let r = flows-read s k at end names e in
+    let within = measure-within 0 31 (drop at s) (r .size) (flow-record-reads (drop at s) (r .size) (r .first)) in
+    rw (r .all) (both-short (nameIn at (r .size)) (r .others) flow (omega arith) (names-short s k (at + r .size) (r .others) end (r .rest)))
 
 header-counts : (s : List ℕ) → headerVerdict s ≡ Accepted → countsVerdict (countsIn s) ≡ Accepted
 unfolding headerVerdict
