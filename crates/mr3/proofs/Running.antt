@@ -21,7 +21,7 @@ use Rattle.rules.specs.Plan.{origin, rowsFrom, run, Started, State, step}
 use Rattle.rules.specs.Rows.{rowsWords, rowWords, wayWords}
 use Rattle.rules.specs.Within.{Accepted, latest, RowWithin, StateWithin}
 use Rattle.rules.proofs.Bounds.{origin-within, step-within}
-use Rattle.mr3.specs.Room.{SummaryWithin}
+use Rattle.rows.specs.Tally.{SummaryWithin}
 
 one-most : (b : Bool) → one b ≤ 1
 unfolding one

@@ -1,4 +1,2 @@
 pub mod Changes
-pub mod Room
-pub mod Storage
 pub mod Written

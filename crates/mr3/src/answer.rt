@@ -1,6 +1,5 @@
 // The plan call but for the flow table: the tests, the rows and the answer.
 ghost use Rattle.mr3.specs.Changes.{Answers};
-use crate::accept;
 use crate::run;
 use load::counts::Counts;
 use load::refusal::Verdict;

@@ -1,20 +1,9 @@
 // The planner: one load's timetable by Multi-Resource Round Robin. `crates/rules/specs/Plan.antt` is the definition of the plan.
 ghost use Rattle.rules.specs.Calls.{Plans};
 
-mod accept;
-mod account;
 mod answer;
-mod arrivals;
-mod list;
-mod queue;
 mod record;
-mod row;
 mod run;
-mod settle;
-mod stages;
-mod state;
-mod step;
-mod tally;
 
 use load::counts::Counts;
 use rules::answer::Planned;

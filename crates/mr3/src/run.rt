@@ -1,72 +1,21 @@
 // The rows one after the other, and what is counted of them.
 ghost use mathlib.Core.Path.{_≡_};
 ghost use Prim.Native.Nat.{_*_, _≤_};
-ghost use lib.ListN.{length, replicate};
+ghost use lib.ListN.{length};
 ghost use Rattle.rules.specs.Load.{loadOf};
 ghost use Rattle.rules.specs.Plan.{origin as Plan·origin, run as Plan·run};
 ghost use Rattle.rules.specs.Within.{Accepted, StateWithin};
 ghost use Rattle.mr3.specs.Written.{Filled};
-ghost use Rattle.mr3.specs.Storage.{atFirst, stateOf};
-use crate::arrivals;
-use crate::list::Storage;
-use crate::row;
-use crate::state::Core;
-use crate::state::Line;
-use crate::state::Planner;
-use crate::step;
-use crate::step::Next;
-use crate::tally;
+ghost use Rattle.decide.specs.Storage.{stateOf};
+use decide::list::Storage;
+use decide::state::Planner;
 use load::counts::Counts;
+use rows::row;
+use rows::tally;
 use rules::answer::Summary;
-use rules::mode::Mode;
-use rules::round::Round;
-use rules::stages::Span;
-use rules::stages::Way;
-
-// The core before anything has arrived.
-fn nothing() -> Core
-    ensures { λ r. ⌜ r ≡ atFirst ⌝ }
-{
-    let none = Span {
-        start: 0,
-        finish: 0,
-    };
-    let way = Way {
-        one: none,
-        two: none,
-        three: none,
-        four: none,
-    };
-    let round = Round {
-        number: 0,
-        left: 0,
-        credit: 0,
-        most: 0,
-    };
-    let line = Line {
-        next: 0,
-        waiting: 0,
-    };
-    Core {
-        clock: 0,
-        line,
-        round,
-        turns: 0,
-        way,
-    }
-}
-
-// The planner at tick 0, with the arrivals of that tick.
-fn origin(counts: Counts, blocks: &[u32], list: &mut Storage) -> Planner
-    requires { ⌜ (counts .blocks ≤ 1024) × (6 * counts .blocks ≤ length (now blocks)) ⌝ }
-    ensures { λ r. ⌜ stateOf r (now (list .exit)) (replicate 64 0) (replicate 64 0) ≡ Plan·origin (loadOf counts (now (blocks .entry))) ⌝ }
-{
-    let core = arrivals::up_to(counts, blocks, Mode::Idle, 0, nothing(), list);
-    Planner {
-        mode: Mode::Idle,
-        core,
-    }
-}
+use start::origin;
+use start::step;
+use start::step::Next;
 
 // Starts as many blocks as are listed; the limit falls by one a start.
 fn run(
@@ -117,7 +66,7 @@ pub fn rows(counts: Counts, listed: usize, blocks: &[u32], rows: &mut [u64]) -> 
     let mut list = [0u64; 2048];
     let mut from = [0usize; 64];
     let mut gate = [0u64; 64];
-    let planner = origin(counts, blocks, &mut list);
+    let planner = origin::origin(counts, blocks, &mut list);
     run(
         counts,
         listed,

@@ -53,7 +53,7 @@ use Rattle.mr3.specs.Changes.{changedAll}
 use Rattle.mr3.proofs.answer.Answered as B
 use Rattle.mr3.proofs.answer.Answered.Laws as B′
 use Rattle.mr3.proofs.Recording.{length-changed, made}
-use Rattle.mr3.proofs.Relend.{relends, unlends, reshares, unshares}
+use Rattle.walks.proofs.Relend.{relends, unlends, reshares, unshares}
 use Rattle.mr3.proofs.PlanSteps.{Answer, Fill, Told, to-answer, goes-answer, gives-answer, to-fill, goes-fill, gives-fill}
 use Rattle.mr3.proofs.answer.answer.Symbol as answer-def
 use Rattle.mr3.proofs.answer.answer.Symbol.{name as #answer}

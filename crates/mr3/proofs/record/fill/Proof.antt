@@ -46,7 +46,7 @@ use Rattle.mr3.specs.declared.record.Change.{Change}
 use Rattle.mr3.specs.Changes.{AllFit, changedAll, changeOf, noted, Readable}
 use Rattle.mr3.proofs.record.Change as U
 use Rattle.mr3.proofs.record.Change.Laws as U′
-use Rattle.mr3.proofs.Relend.{relends, unlends}
+use Rattle.walks.proofs.Relend.{relends, unlends}
 use Rattle.mr3.proofs.Steps.{Note, Next, to-note, goes-note, gives-note, to-next, goes-next, gives-next}
 use Rattle.mr3.proofs.record.note.Symbol as note-def
 use Rattle.mr3.proofs.record.note.Symbol.{name as #note}

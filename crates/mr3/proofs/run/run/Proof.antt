@@ -12,10 +12,11 @@ use Rattle.rules.specs.Counts as counts
 use Rattle.rules.specs.Load.{Load, loadOf}
 use Rattle.rules.specs.Plan.{run, State, step}
 use Rattle.rules.specs.Rows.{rowWords}
-use Rattle.mr3.specs.declared.state.Planner.{Planner}
-use Rattle.mr3.specs.declared.step.Next.the-variants.{Start, Done}
-use Rattle.mr3.specs.declared.step.Next.{Next}
-use Rattle.mr3.specs.Storage.{nextOf, stateOf}
+use Rattle.decide.specs.declared.state.Planner.{Planner}
+use Rattle.start.specs.declared.step.Next.the-variants.{Start, Done}
+use Rattle.start.specs.declared.step.Next.{Next}
+use Rattle.start.specs.Next.{nextOf}
+use Rattle.decide.specs.Storage.{stateOf}
 use Rattle.mr3.proofs.Running.{row-long, row-room, Running, running-done, running-first, running-step, running-stops, summary-within}
 use Rattle.mr3.proofs.run.run.Statement.{statement}
 use Rattle.mr3.proofs.run.run.Tie as tie

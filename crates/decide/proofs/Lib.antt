@@ -1,0 +1,7 @@
+pub mod Arriving
+pub mod Deciding
+pub mod Entries
+pub mod Modes
+pub mod Moving
+pub mod Seeking
+pub mod Taking

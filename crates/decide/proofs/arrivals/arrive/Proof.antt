@@ -1,0 +1,45 @@
+-- `decide::arrivals::arrive` meets its contract: the flow is busy, or listed, or joins.
+use native.Mathlib.Omega.{arith}
+use borrow.Author.Needs.{needs}
+use Rattle.rules.specs.Plan.{arrived}
+use Rattle.decide.proofs.arrivals.arrive.Statement.{statement}
+use Rattle.decide.proofs.arrivals.arrive.Tie as tie
+
+busy-requires : tie.Need-busy-requires
+busy-requires c κs = search needs
+
+returns : tie.Need-returns
+unfolding arrived
+returns c = (simp (← (c .before .busy .ensures), c .if1 .taken), omega arith)
+
+has-requires : tie.Need-has-requires
+has-requires c κs = search needs
+
+returns-2 : tie.Need-returns-2
+unfolding arrived
+returns-2 c =
+    (simp (← (c .before .before .before .before .busy .ensures), c .before .before .before .if1 .left, ← (c .before .has .ensures), c .if2 .taken), omega arith)
+
+join-requires : tie.Need-join-requires
+join-requires c κs = search needs
+
+add-result : tie.Need-add-result
+add-result c = search needs
+
+returns-3 : tie.Need-returns-3
+unfolding arrived
+returns-3 c = (
+  simp (
+    c .join .ensures,
+    ← (c .before .before .before .before .before .before .busy .ensures),
+    c .before .before .before .before .before .if1 .left,
+    ← (c .before .before .before .has .ensures),
+    c .before .before .if2 .left,
+  ),
+  omega arith,
+)
+
+pub arrive-spec : {M : Type 1} → statement M
+arrive-spec =
+    tie.close
+    (tie.spec busy-requires returns has-requires returns-2 join-requires add-result returns-3)

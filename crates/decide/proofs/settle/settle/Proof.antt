@@ -1,0 +1,23 @@
+-- `decide::settle::settle` meets its contract: the turn is tested, and then an idle planner takes the next flow.
+use mathlib.Core.Path.{ap, _∙_}
+use borrow.Author.Needs.{needs}
+use Rattle.rules.specs.Load.{loadOf}
+use Rattle.rules.specs.Plan.{onward, settled, State}
+use Rattle.decide.proofs.settle.settle.Statement.{statement}
+use Rattle.decide.proofs.settle.settle.Tie as tie
+
+tested-requires : tie.Need-tested-requires
+tested-requires c κs = search needs
+
+onward-requires : tie.Need-onward-requires
+onward-requires c κs = search needs
+
+returns : tie.Need-returns
+unfolding settled
+returns c = λ gate.
+    let a = c .before .before .before .before .before .args in
+    c .onward .ensures (a .from .now) gate
+    ∙ ap (λ (s : State). onward (loadOf (a .counts) (a .blocks .now)) (s .mode) (s .core)) (c .before .before .tested .ensures .0 gate)
+
+pub settle-spec : {M : Type 1} → statement M
+settle-spec = tie.close (tie.spec tested-requires onward-requires returns)

@@ -1,0 +1,2 @@
+pub mod Reaching
+pub mod Starting

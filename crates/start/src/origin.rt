@@ -1,0 +1,63 @@
+// The planner before the first start.
+ghost use mathlib.Core.Path.{_≡_};
+ghost use Prim.Native.Nat.{_*_, _≤_};
+ghost use lib.ListN.{length, replicate};
+ghost use Rattle.rules.specs.Load.{loadOf};
+ghost use Rattle.rules.specs.Plan.{origin as Plan·origin};
+ghost use Rattle.decide.specs.Storage.{stateOf};
+ghost use Rattle.start.specs.Next.{atFirst};
+use decide::arrivals;
+use decide::list::Storage;
+use decide::state::Core;
+use decide::state::Line;
+use decide::state::Planner;
+use load::counts::Counts;
+use rules::mode::Mode;
+use rules::round::Round;
+use rules::stages::Span;
+use rules::stages::Way;
+
+// The core before anything has arrived.
+fn nothing() -> Core
+    ensures { λ r. ⌜ r ≡ atFirst ⌝ }
+{
+    let none = Span {
+        start: 0,
+        finish: 0,
+    };
+    let way = Way {
+        one: none,
+        two: none,
+        three: none,
+        four: none,
+    };
+    let round = Round {
+        number: 0,
+        left: 0,
+        credit: 0,
+        most: 0,
+    };
+    let line = Line {
+        next: 0,
+        waiting: 0,
+    };
+    Core {
+        clock: 0,
+        line,
+        round,
+        turns: 0,
+        way,
+    }
+}
+
+// The planner at tick 0, with the arrivals of that tick.
+pub fn origin(counts: Counts, blocks: &[u32], list: &mut Storage) -> Planner
+    requires { ⌜ (counts .blocks ≤ 1024) × (6 * counts .blocks ≤ length (now blocks)) ⌝ }
+    ensures { λ r. ⌜ stateOf r (now (list .exit)) (replicate 64 0) (replicate 64 0) ≡ Plan·origin (loadOf counts (now (blocks .entry))) ⌝ }
+{
+    let core = arrivals::up_to(counts, blocks, Mode::Idle, 0, nothing(), list);
+    Planner {
+        mode: Mode::Idle,
+        core,
+    }
+}
