@@ -10,6 +10,7 @@ pub mod Examples
 pub mod Fair
 pub mod FairExamples
 pub mod Kept
+pub mod Lists
 pub mod Refusing
 pub mod Spans
 pub mod Standing

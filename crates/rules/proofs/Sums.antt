@@ -36,7 +36,7 @@ sum-same p q (suc i) each = omega (arith, sum-same p q i (λ j h. each j (omega 
 
 -- numbers of at most 1 whose sum is as large as they are many are all 1
 module _ (p : ℕ → ℕ) (most : (i : ℕ) → p i ≤ 1) where
-  sum-most : (m : ℕ) → sumBelow p m ≤ m
+  pub sum-most : (m : ℕ) → sumBelow p m ≤ m
   sum-most zero = omega arith
   sum-most (suc k) = omega (arith, sum-most k, most k)
 

@@ -2,15 +2,14 @@
 -- blocks that have arrived, each that isn't started is of a flow that waits, is held or is in its turn; no flow is there twice;
 -- and each flow that waits or is held has such a block.
 use Prim.Native.Nat.{ℕ, zero, suc, _+_, _-_, _≤_, _<_, min}
-use mathlib.Core.Bool.{true, false, _||_, or-assoc, or-false, or-true}
+use mathlib.Core.Bool.{true, false, _||_, or-true}
 use mathlib.Core.List.{List, [], _∷_, _++_, append-assoc}
 use mathlib.Core.Path.{_≡_, refl, sym, _∙_}
 use native.Mathlib.Omega.{arith}
-use borrow.Author.Tests.{eq-eqb, eqb-false, eqb-true, le-leb, lt-ltb, ltb-false, ltb-true, ne-eqb}
+use borrow.Author.Tests.{eq-eqb, eqb-false, eqb-true, le-leb, lt-ltb, ltb-false, ltb-true}
 use lib.Dec.{eqb, leb, ltb}
 use lib.ListN.{getD, length, replicate, set}
 use lib.Seq.{getD-set-other, getD-set-same}
-use Rattle.load.proofs.Cases as chain
 use Rattle.load.proofs.Cases.{by-test, cases, either}
 use Rattle.rules.specs.declared.entry.Entry.{Entry}
 use Rattle.rules.specs.declared.mode.Mode.{Mode}
@@ -18,26 +17,10 @@ use Rattle.rules.specs.declared.mode.Mode.the-variants.{Idle, Holds, InT
 use Rattle.rules.specs.EachBlock.{sumBelow}
 use Rattle.rules.specs.Load.{Load, blockAt, seek}
 use Rattle.rules.specs.Plan.{Core, Line, arrivals, arrived, busy, oldest, upTo, waits}
-use Rattle.rules.specs.Waiting.{listed}
+use Rattle.rules.specs.Waiting.{Apart, listed}
 use Rattle.rules.proofs.Blocks.{getD-zeros, oldest-own}
+use Rattle.rules.proofs.Lists.{apart-join, listed-join}
 use Rattle.rules.proofs.Sums.{sum-more}
-
-pub listed-join : (g : ℕ) (e : Entry) (w : List Entry) → listed g (w ++ (e ∷ [])) ≡ listed g w || eqb (e .flow) g
-unfolding listed
-listed-join g e [] = or-false (eqb (e .flow) g)
-listed-join g e (x ∷ w) = rw (listed-join g e w) (sym (or-assoc (eqb (x .flow) g) (listed g w) (eqb (e .flow) g)))
-
--- no flow is listed twice
-abbrev pub Apart : List Entry → Type 0
-Apart [] = Unit {0}
-Apart (e ∷ w) = (listed (e .flow) w ≡ false) × Apart w
-
-pub apart-join : (e : Entry) (w : List Entry) → listed (e .flow) w ≡ false → Apart w → Apart (w ++ (e ∷ []))
-unfolding listed
-apart-join e [] out a = (refl, tt)
-apart-join e (x ∷ w) out a =
-    let differ = chain.or-false (eqb (x .flow) (e .flow)) (listed (e .flow) w) out in
-    (rw (listed-join (x .flow) e w, a .0) (ne-eqb (e .flow) (x .flow) (λ q. eqb-false (x .flow) (e .flow) (differ .0) (sym q))), apart-join e w (differ .1) (a .1))
 
 -- the flow that is held or in its turn, and the flow that is held
 abbrev pub front : Mode → List Entry

@@ -28,7 +28,8 @@ use Rattle.rules.specs.Waiting.{listed}
 use Rattle.rules.specs.Within.{Accepted}
 use Rattle.rules.proofs.Accepting.{accepted}
 use Rattle.rules.proofs.Blocks.{getD-zeros, oldest-own}
-use Rattle.rules.proofs.Unstarted.{Marks, Queue, Whole, apart-join, arrivals-first, flowAt, front, listed-join, oldest-from, oldest-least, open-waits, set-cases, started-all, started-more, started-none, upTo-whole, waits-open}
+use Rattle.rules.proofs.Lists.{apart-join, listed-join}
+use Rattle.rules.proofs.Unstarted.{Marks, Queue, Whole, arrivals-first, flowAt, front, oldest-from, oldest-least, open-waits, set-cases, started-all, started-more, started-none, upTo-whole, waits-open}
 
 module _ (L : Load) where
   -- a start is made, and one block more is started
