@@ -1,25 +1,11 @@
 -- The parts of a step that go by the mode, where the mode is known by an equation.
-use Prim.Native.Nat.{_≤_, _<_}
 use mathlib.Core.Path.{_≡_, refl}
-use native.Mathlib.Omega.{arith}
 use Rattle.rules.specs.declared.mode.HeldFlow.{HeldFlow}
 use Rattle.rules.specs.declared.mode.Mode.the-variants.{Idle, Holds, InTurn}
 use Rattle.rules.specs.declared.mode.Mode.{Mode}
 use Rattle.rules.specs.declared.mode.Turn.{Turn}
 use Rattle.rules.specs.Load.{Load}
 use Rattle.rules.specs.Plan.{Core, onward, readied, state, tested}
-use Rattle.decide.specs.declared.state.Line as code
-use Rattle.decide.specs.Room.{LineWithin}
-
-pub line-short : (m : Mode) (l : code.Line) → LineWithin m l → l .waiting ≤ l .next
-unfolding LineWithin
-line-short Idle l w = w
-line-short (Holds h) l w = omega arith
-line-short (InTurn t) l w = omega arith
-
-pub line-in-turn : (m : Mode) (t : Turn) (l : code.Line) → m ≡ InTurn t → LineWithin m l → (l .waiting < l .next) × (t .flow < 64)
-unfolding LineWithin
-line-in-turn m t l e w = rw e at w
 
 module _ (L : Load) (m : Mode) (c : Core) where
   pub tested-idle : m ≡ Idle → tested L m c ≡ state m c

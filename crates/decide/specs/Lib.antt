@@ -1,2 +1,2 @@
 pub mod Room
-pub mod Storage
+pub mod State

@@ -1,18 +1,24 @@
--- Bounds of the code's numbers where a decision is made, by which its sums fit 64 bits and its indices their arrays.
-use Prim.Native.Nat.{_≤_, _<_}
-use Rattle.load.specs.declared.counts.Counts.{Counts}
-use Rattle.rules.specs.declared.mode.Mode.{Mode}
-use Rattle.rules.specs.declared.mode.Mode.the-variants.{Idle, Holds, InTurn}
-use Rattle.decide.specs.declared.state.Line as code
+-- What a decision asks of the code's numbers, so that its sums fit 64 bits and the list has room.
+use Prim.Native.Nat.{ℕ, _≤_, _<_}
+use mathlib.Core.List.{List}
+use Rattle.rules.specs.declared.entry.Entry.{Entry}
+use Rattle.rules.specs.Load.{Load}
+use Rattle.rules.specs.Waiting.{Lists}
+use Rattle.rules.specs.Within.{Away}
+use Rattle.decide.specs.declared.state.Core.{Core}
 use Rattle.decide.specs.declared.state.Planner.{Planner}
 
--- What `StateWithin` says, of the code's numbers, where a step begins.
-unfoldable pub LineWithin : Mode → code.Line → Type 0
-LineWithin Idle l = l .waiting ≤ l .next
-LineWithin (Holds h) l = l .waiting < l .next
-LineWithin (InTurn t) l = (l .waiting < l .next) × (t .flow < 64)
+-- The blocks that have arrived are in the table, and the list is one of flows of the load, none twice.
+pub record Stands (L : Load) (next : ℕ) (w : List Entry) : Type 0 where
+  pub arrived : next ≤ L .counts .blocks
+  pub lists : Lists (L .counts .flows) w
 
-pub record Settles (counts : Counts) (p : Planner) : Type 0 where
-  pub next : p .core .line .next ≤ counts .blocks
-  pub line : LineWithin (p .mode) (p .core .line)
-  pub number : p .core .round .number < 1000000
+-- where a flow is taken, which may open a round
+pub record Takes (L : Load) (c : Core) (w : List Entry) : Type 0 where
+  pub stands : Stands L (c .next) w
+  pub number : c .round .number < 1_000_000
+
+-- where the planner is settled: the flow that is held or in its turn isn't listed
+pub record Settles (L : Load) (p : Planner) (w : List Entry) : Type 0 where
+  pub takes : Takes L (p .core) w
+  pub away : Away (L .counts .flows) (p .mode) w

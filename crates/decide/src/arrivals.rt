@@ -1,18 +1,19 @@
 // Arrivals up to a tick: a flow joins the list when a block of its arrives and it is neither listed, held nor in its turn.
 ghost use mathlib.Core.Path.{_≡_};
-ghost use mathlib.Core.List.{List};
-ghost use Prim.Native.Nat.{ℕ, _+_, _*_, _-_, _≤_, _<_};
+ghost use Prim.Native.Nat.{_+_, _*_, _-_, _≤_, _<_};
 ghost use lib.ListN.{length};
 ghost use Rattle.rules.specs.Load.{blockAt, loadOf};
 ghost use Rattle.rules.specs.Plan.{arrivals, arrived, busy as Plan·busy, upTo};
-ghost use Rattle.decide.specs.Storage.{coreOf, entriesOf, lineOf};
-use crate::list;
-use crate::list::Storage;
+ghost use Rattle.rules.specs.Waiting.{Lists};
+ghost use Rattle.rules.specs.Within.{Accepted};
+ghost use Rattle.waiting.specs.Entries.{entries, most};
+ghost use Rattle.decide.specs.Room.{Stands};
+ghost use Rattle.decide.specs.State.{CoreBecomes, lineOf};
 use crate::state::Core;
-use crate::state::Line;
 use load::counts::Counts;
 use rules::entry::Entry;
 use rules::mode::Mode;
+use waiting::Storage;
 
 // Whether a flow is held or in its turn.
 fn busy(mode: Mode, flow: usize) -> bool
@@ -25,19 +26,18 @@ fn busy(mode: Mode, flow: usize) -> bool
     }
 }
 
-// A block of a flow arrives. The answer is how many flows wait then.
-fn arrive(mode: Mode, flow: usize, waiting: usize, list: &mut Storage) -> usize
-    requires { ⌜ waiting < 1024 ⌝ }
-    ensures { λ r. ⌜ (entriesOf r (now (list .exit)) ≡ arrived mode flow (entriesOf waiting (now (list .entry)))) × (r ≤ waiting + 1) ⌝ }
+// A block of a flow arrives.
+fn arrive(mode: Mode, flow: usize, list: &mut Storage)
+    requires { ⌜ (flow < most) × Lists most (entries (now list)) ⌝ }
+    ensures { λ _. ⌜ entries (now (list .exit)) ≡ arrived mode flow (entries (now (list .entry))) ⌝ }
 {
     if busy(mode, flow) {
-        return waiting;
+        return;
     }
-    if list::has(list, waiting, flow) {
-        return waiting;
+    if waiting::has(list, flow) {
+        return;
     }
-    list::join(list, waiting, Entry { flow, excess: 0 });
-    waiting + 1
+    waiting::join(list, Entry { flow, excess: 0 });
 }
 
 // The tick at which a block arrives.
@@ -57,30 +57,30 @@ fn flow_of(blocks: &[u32], block: usize) -> usize
     blocks[at] as usize
 }
 
-// Takes the arrivals up to a tick.
+// Takes the arrivals up to a tick. The answer is how many blocks have arrived then.
 fn admit(
     counts: Counts,
     blocks: &[u32],
     mode: Mode,
     tick: u64,
-    line: Line,
+    first: usize,
     list: &mut Storage,
-) -> Line
-    requires { ⌜ (counts .blocks ≤ 1024) × (6 * counts .blocks ≤ length (now blocks)) × (line .waiting ≤ line .next) × (line .next ≤ counts .blocks) ⌝ }
-    ensures { λ r. ⌜ lineOf r (now (list .exit)) ≡ arrivals (loadOf counts (now (blocks .entry))) (counts .blocks - line .next) mode tick (lineOf line (now (list .entry))) ⌝ }
-    ensures { λ r. ⌜ (r .waiting ≤ r .next) × (r .next ≤ counts .blocks) ⌝ }
+) -> usize
+    requires { ⌜ Accepted (loadOf counts (now blocks)) ⌝ }
+    requires { ⌜ Stands (loadOf counts (now blocks)) first (entries (now list)) ⌝ }
+    ensures { λ r. ⌜ lineOf r (now (list .exit))
+        ≡ arrivals (loadOf counts (now (blocks .entry))) (counts .blocks - first) mode tick (lineOf first (now (list .entry))) ⌝ }
 {
-    let mut next = line.next;
-    let mut waiting = line.waiting;
+    let mut next = first;
     let end = counts.blocks;
     while next < end {
         if tick < arrival(blocks, next) {
-            return Line { next, waiting };
+            return next;
         }
-        waiting = arrive(mode, flow_of(blocks, next), waiting, list);
+        arrive(mode, flow_of(blocks, next), list);
         next += 1;
     }
-    Line { next, waiting }
+    next
 }
 
 // The clock moves to a tick, with the arrivals up to it.
@@ -92,17 +92,16 @@ pub fn up_to(
     core: Core,
     list: &mut Storage,
 ) -> Core
-    requires { ⌜ (counts .blocks ≤ 1024) × (6 * counts .blocks ≤ length (now blocks)) × (core .line .waiting ≤ core .line .next) × (core .line .next ≤ counts .blocks) ⌝ }
-    ensures { λ r. ⌜ ((from gate : List ℕ) → coreOf r (now (list .exit)) from gate ≡ upTo (loadOf counts (now (blocks .entry))) mode tick (coreOf core (now (list .entry)) from gate)) ⌝ }
-    ensures { λ r. ⌜ (r .line .waiting ≤ r .line .next) × (r .line .next ≤ counts .blocks) × (r .round ≡ core .round) ⌝ }
+    requires { ⌜ Accepted (loadOf counts (now blocks)) ⌝ }
+    requires { ⌜ Stands (loadOf counts (now blocks)) (core .next) (entries (now list)) ⌝ }
+    ensures { λ r. ⌜ CoreBecomes (upTo (loadOf counts (now (blocks .entry))) mode tick) core (now (list .entry)) r (now (list .exit)) ⌝ }
 {
-    let line = core.line;
     let round = core.round;
     let way = core.way;
-    let then = admit(counts, blocks, mode, tick, line, list);
+    let next = admit(counts, blocks, mode, tick, core.next, list);
     Core {
         clock: tick,
-        line: then,
+        next,
         round,
         turns: core.turns,
         way,

@@ -1,6 +1,5 @@
 // What is decided when stage 1 is free: arrivals up to a tick, whether the turn goes on, and else who is taken next.
 pub mod arrivals;
-pub mod list;
 pub mod queue;
 pub mod settle;
 pub mod state;

@@ -1,45 +1,37 @@
 // What is decided when stage 1 is free: whether the turn goes on, and else who is taken next.
-ghost use mathlib.Core.Path.{_≡_};
 ghost use mathlib.Core.List.{List, [], _∷_};
-ghost use Prim.Native.Nat.{ℕ, _+_, _*_, _-_, _≤_, _<_};
-ghost use lib.ListN.{length};
+ghost use Prim.Native.Nat.{ℕ, _<_};
 ghost use Rattle.rules.specs.declared.mode.Mode.the-variants.{InTurn};
 ghost use Rattle.rules.specs.Load.{loadOf};
-ghost use Rattle.rules.specs.Plan.{onward as Plan·onward, readied, rejoined, settled, taken, tested as Plan·tested, woken};
-ghost use Rattle.decide.specs.Room.{Settles};
-ghost use Rattle.decide.specs.Storage.{coreOf, entriesOf, stateOf};
+ghost use Rattle.rules.specs.Plan.{onward as Plan·onward, readied, rejoined, taken, tested as Plan·tested, woken};
+ghost use Rattle.rules.specs.Within.{Accepted, Away};
+ghost use Rattle.waiting.specs.Entries.{entries, Fits, Room};
+ghost use Rattle.decide.specs.Room.{Settles, Stands, Takes};
+ghost use Rattle.decide.specs.State.{Becomes, BecomesFrom, CoreBecomes, settledIn};
 use crate::arrivals;
-use crate::list;
-use crate::list::Head;
-use crate::list::Storage;
 use crate::queue;
 use crate::state::Core;
-use crate::state::Line;
 use crate::state::Planner;
 use load::counts::Counts;
 use rules::entry::Entry;
 use rules::mode::HeldFlow;
 use rules::mode::Mode;
 use rules::mode::Turn;
+use waiting::Head;
+use waiting::Storage;
 
 // The turn ended with a block still waiting: the flow joins the tail with its excess.
 fn rejoin(core: Core, flow: usize, excess: u64, list: &mut Storage) -> Core
-    requires { ⌜ core .line .waiting < 1024 ⌝ }
-    ensures { λ r. ⌜ ((from gate : List ℕ) → coreOf r (now (list .exit)) from gate ≡ rejoined (coreOf core (now (list .entry)) from gate) flow excess) ⌝ }
-    ensures { λ r. ⌜ (r .line .waiting ≡ core .line .waiting + 1) × (r .line .next ≡ core .line .next) × (r .round .number ≡ core .round .number) ⌝ }
+    requires { ⌜ Room (entries (now list)) ⌝ }
+    ensures { λ r. ⌜ CoreBecomes (λ c. rejoined c flow excess) core (now (list .entry)) r (now (list .exit)) ⌝ }
 {
-    let line = core.line;
     let round = core.round;
     let way = core.way;
-    list::join(list, line.waiting, Entry { flow, excess });
-    let next = Line {
-        next: line.next,
-        waiting: line.waiting + 1,
-    };
+    waiting::join(list, Entry { flow, excess });
     let then = accounts::noted(round, excess);
     Core {
         clock: core.clock,
-        line: next,
+        next: core.next,
         round: then,
         turns: core.turns,
         way,
@@ -55,12 +47,14 @@ fn test_turn(
     list: &mut Storage,
     from: &[usize; 64],
 ) -> Planner
-    requires { ⌜ (counts .blocks ≤ 1024) × (6 * counts .blocks ≤ length (now blocks)) × (core .line .next ≤ counts .blocks) × (core .line .waiting < core .line .next) × (turn .flow < 64) ⌝ }
-    ensures { λ r. ⌜ ((gate : List ℕ) → stateOf r (now (list .exit)) (now (from .entry)) gate ≡ Plan·tested (loadOf counts (now (blocks .entry))) (InTurn turn) (coreOf core (now (list .entry)) (now (from .entry)) gate)) ⌝ }
-    ensures { λ r. ⌜ (r .core .line .waiting ≤ r .core .line .next) × (r .core .line .next ≤ counts .blocks) × (r .core .round .number ≡ core .round .number) ⌝ }
+    requires { ⌜ Accepted (loadOf counts (now blocks)) ⌝ }
+    requires { ⌜ Stands (loadOf counts (now blocks)) (core .next) (entries (now list)) ⌝ }
+    requires { ⌜ Away (counts .flows) (InTurn turn) (entries (now list)) ⌝ }
+    ensures { λ r. ⌜ BecomesFrom (now (from .entry)) (Plan·tested (loadOf counts (now (blocks .entry))) (InTurn turn))
+        core (now (list .entry)) r (now (list .exit)) ⌝ }
 {
     let flow = turn.flow;
-    let next = core.line.next;
+    let next = core.next;
     if next <= queue::oldest(blocks, flow, from[flow], next) {
         return Planner {
             mode: Mode::Idle,
@@ -81,12 +75,12 @@ fn test_turn(
     }
 }
 
-// The head of the list is called to its turn, and is held from this tick on.
-fn call(core: Core, entry: Entry) -> Planner
-    requires { ⌜ (0 < core .line .waiting) × (core .round .number < 1000000) ⌝ }
-    ensures { λ r. ⌜ ((list list′ from gate : List ℕ) → entriesOf (core .line .waiting) list ≡ entry ∷ entriesOf (core .line .waiting - 1) list′ → stateOf r list′ from gate ≡ taken (coreOf core list from gate) (entriesOf (core .line .waiting) list)) ⌝ }
+// The flow that has left the list is called to its turn, and is held from this tick on. It was the head of those that wait, so it
+// counts where a round opens.
+fn call(core: Core, entry: Entry, list: &Storage) -> Planner
+    requires { ⌜ Fits (entries (now list)) × (core .round .number < 1_000_000) ⌝ }
+    ensures { λ r. ⌜ ((before : List ℕ) → Becomes (λ c. taken c (entry ∷ entries (now (list .entry)))) core before r (now (list .entry))) ⌝ }
 {
-    let line = core.line;
     let round = core.round;
     let way = core.way;
     let held = HeldFlow {
@@ -94,14 +88,11 @@ fn call(core: Core, entry: Entry) -> Planner
         excess: entry.excess,
         ready: core.clock,
     };
-    let rest = Line {
-        next: line.next,
-        waiting: line.waiting - 1,
-    };
-    let then = accounts::called(round, line.waiting as u64);
+    let waiting = waiting::length(list) as u64 + 1;
+    let then = accounts::called(round, waiting);
     let next = Core {
         clock: core.clock,
-        line: rest,
+        next: core.next,
         round: then,
         turns: core.turns,
         way,
@@ -114,11 +105,11 @@ fn call(core: Core, entry: Entry) -> Planner
 
 // The list is empty, so the planner goes on to the next arrival, if one is to come: only the clock moves.
 fn wake(counts: Counts, blocks: &[u32], core: Core, list: &mut Storage) -> Core
-    requires { ⌜ (counts .blocks ≤ 1024) × (6 * counts .blocks ≤ length (now blocks)) × (core .line .waiting ≡ 0) × (core .line .next ≤ counts .blocks) ⌝ }
-    ensures { λ r. ⌜ ((from gate : List ℕ) → coreOf r (now (list .exit)) from gate ≡ woken (loadOf counts (now (blocks .entry))) (coreOf core (now (list .entry)) from gate) []) ⌝ }
-    ensures { λ r. ⌜ (r .line .waiting ≤ 1024) × (r .round ≡ core .round) ⌝ }
+    requires { ⌜ Accepted (loadOf counts (now blocks)) ⌝ }
+    requires { ⌜ Stands (loadOf counts (now blocks)) (core .next) (entries (now list)) ⌝ }
+    ensures { λ r. ⌜ CoreBecomes (λ c. woken (loadOf counts (now (blocks .entry))) c []) core (now (list .entry)) r (now (list .exit)) ⌝ }
 {
-    let next = core.line.next;
+    let next = core.next;
     if counts.blocks <= next {
         return core;
     }
@@ -128,28 +119,29 @@ fn wake(counts: Counts, blocks: &[u32], core: Core, list: &mut Storage) -> Core
 
 // The head of the list is taken, and the planner is idle where there is none.
 fn take_head(core: Core, list: &mut Storage) -> Planner
-    requires { ⌜ (core .line .waiting ≤ 1024) × (core .round .number < 1000000) ⌝ }
-    ensures { λ r. ⌜ ((from gate : List ℕ) → stateOf r (now (list .exit)) from gate ≡ taken (coreOf core (now (list .entry)) from gate) (entriesOf (core .line .waiting) (now (list .entry)))) ⌝ }
+    requires { ⌜ Fits (entries (now list)) × (core .round .number < 1_000_000) ⌝ }
+    ensures { λ r. ⌜ Becomes (λ c. taken c (c .line .wait)) core (now (list .entry)) r (now (list .exit)) ⌝ }
 {
-    let Head::Flow(entry) = list::take(list, core.line.waiting) else {
+    let Head::Flow(entry) = waiting::take(list) else {
         return Planner {
             mode: Mode::Idle,
             core,
         };
     };
-    call(core, entry)
+    call(core, entry, list)
 }
 
 // The ready tick: the head of the list is taken; where the list is empty, the planner goes on to the next arrival instead.
 fn ready(counts: Counts, blocks: &[u32], core: Core, list: &mut Storage) -> Planner
-    requires { ⌜ (counts .blocks ≤ 1024) × (6 * counts .blocks ≤ length (now blocks)) × (core .line .waiting ≤ core .line .next) × (core .line .next ≤ counts .blocks) × (core .round .number < 1000000) ⌝ }
-    ensures { λ r. ⌜ ((from gate : List ℕ) → stateOf r (now (list .exit)) from gate ≡ readied (loadOf counts (now (blocks .entry))) (coreOf core (now (list .entry)) from gate)) ⌝ }
+    requires { ⌜ Accepted (loadOf counts (now blocks)) ⌝ }
+    requires { ⌜ Takes (loadOf counts (now blocks)) core (entries (now list)) ⌝ }
+    ensures { λ r. ⌜ Becomes (readied (loadOf counts (now (blocks .entry)))) core (now (list .entry)) r (now (list .exit)) ⌝ }
 {
-    let Head::Flow(entry) = list::take(list, core.line.waiting) else {
+    let Head::Flow(entry) = waiting::take(list) else {
         let woken = wake(counts, blocks, core, list);
         return take_head(woken, list);
     };
-    call(core, entry)
+    call(core, entry, list)
 }
 
 // A turn is tested; an idle planner and a held flow stay as they are.
@@ -160,10 +152,10 @@ fn tested(
     list: &mut Storage,
     from: &[usize; 64],
 ) -> Planner
-    requires { ⌜ (counts .blocks ≤ 1024) × (6 * counts .blocks ≤ length (now blocks)) ⌝ }
-    requires { ⌜ Settles counts planner ⌝ }
-    ensures { λ r. ⌜ ((gate : List ℕ) → stateOf r (now (list .exit)) (now (from .entry)) gate ≡ Plan·tested (loadOf counts (now (blocks .entry))) (planner .mode) (coreOf (planner .core) (now (list .entry)) (now (from .entry)) gate)) ⌝ }
-    ensures { λ r. ⌜ (r .core .line .waiting ≤ r .core .line .next) × (r .core .line .next ≤ counts .blocks) × (r .core .round .number ≡ planner .core .round .number) ⌝ }
+    requires { ⌜ Accepted (loadOf counts (now blocks)) ⌝ }
+    requires { ⌜ Settles (loadOf counts (now blocks)) planner (entries (now list)) ⌝ }
+    ensures { λ r. ⌜ BecomesFrom (now (from .entry)) (Plan·tested (loadOf counts (now (blocks .entry))) (planner .mode))
+        (planner .core) (now (list .entry)) r (now (list .exit)) ⌝ }
 {
     let mode = planner.mode;
     let core = planner.core;
@@ -176,9 +168,9 @@ fn tested(
 
 // An idle planner takes the next flow; any other goes on.
 fn onward(counts: Counts, blocks: &[u32], planner: Planner, list: &mut Storage) -> Planner
-    requires { ⌜ (counts .blocks ≤ 1024) × (6 * counts .blocks ≤ length (now blocks)) ⌝ }
-    requires { ⌜ (planner .core .line .waiting ≤ planner .core .line .next) × (planner .core .line .next ≤ counts .blocks) × (planner .core .round .number < 1000000) ⌝ }
-    ensures { λ r. ⌜ ((from gate : List ℕ) → stateOf r (now (list .exit)) from gate ≡ Plan·onward (loadOf counts (now (blocks .entry))) (planner .mode) (coreOf (planner .core) (now (list .entry)) from gate)) ⌝ }
+    requires { ⌜ Accepted (loadOf counts (now blocks)) ⌝ }
+    requires { ⌜ Takes (loadOf counts (now blocks)) (planner .core) (entries (now list)) ⌝ }
+    ensures { λ r. ⌜ Becomes (Plan·onward (loadOf counts (now (blocks .entry))) (planner .mode)) (planner .core) (now (list .entry)) r (now (list .exit)) ⌝ }
 {
     let mode = planner.mode;
     let core = planner.core;
@@ -198,9 +190,10 @@ pub fn settle(
     list: &mut Storage,
     from: &[usize; 64],
 ) -> Planner
-    requires { ⌜ (counts .blocks ≤ 1024) × (6 * counts .blocks ≤ length (now blocks)) ⌝ }
-    requires { ⌜ Settles counts planner ⌝ }
-    ensures { λ r. ⌜ ((gate : List ℕ) → stateOf r (now (list .exit)) (now (from .entry)) gate ≡ settled (loadOf counts (now (blocks .entry))) (stateOf planner (now (list .entry)) (now (from .entry)) gate)) ⌝ }
+    requires { ⌜ Accepted (loadOf counts (now blocks)) ⌝ }
+    requires { ⌜ Settles (loadOf counts (now blocks)) planner (entries (now list)) ⌝ }
+    ensures { λ r. ⌜ BecomesFrom (now (from .entry)) (settledIn (loadOf counts (now (blocks .entry))) (planner .mode))
+        (planner .core) (now (list .entry)) r (now (list .exit)) ⌝ }
 {
     let then = tested(counts, blocks, planner, list, from);
     onward(counts, blocks, then, list)

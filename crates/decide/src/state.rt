@@ -3,16 +3,11 @@ use rules::mode::Mode;
 use rules::round::Round;
 use rules::stages::Way;
 
-// How many blocks of the table have arrived, and how many flows wait.
-pub struct Line {
-    pub next: usize,
-    pub waiting: usize,
-}
-
-// What goes on whatever the mode: the clock, the line, the round, the turns begun, and the way of the block started last.
+// What goes on whatever the mode: the clock, how many blocks of the table have arrived, the round, the turns begun, and the way
+// of the block started last.
 pub struct Core {
     pub clock: u64,
-    pub line: Line,
+    pub next: usize,
     pub round: Round,
     pub turns: u64,
     pub way: Way,

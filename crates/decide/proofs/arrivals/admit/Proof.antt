@@ -5,36 +5,48 @@ use native.Mathlib.Omega.{arith}
 use Rattle.load.specs.declared.counts.Counts.{Counts}
 use Rattle.rules.specs.Load.{loadOf}
 use Rattle.rules.specs.Plan.{arrivals}
+use Rattle.rules.specs.Waiting.{Lists}
+use Rattle.rules.proofs.Lists.{arrived-lists, lists-more}
+use Rattle.waiting.specs.Entries.{entries, most}
+use Rattle.decide.specs.State.{lineOf}
 use Rattle.decide.proofs.Arriving.{arrivals-late, arrivals-none, arrivals-step}
-use Rattle.decide.specs.Storage.{entriesOf}
 use Rattle.decide.proofs.arrivals.admit.Statement.{statement}
 use Rattle.decide.proofs.arrivals.admit.Tie as tie
 
 abbrev Inv-loop : tie.InvT-loop
-Inv-loop blocks mode tick list₀ next₀ waiting₀ end list next waiting =
-    (next ≤ end) × (waiting ≤ next)
-    × ((counts : Counts) → arrivals (loadOf counts blocks) (end - next) mode tick (record { next = next; wait = entriesOf waiting list })
-    ≡ arrivals (loadOf counts blocks) (end - next₀) mode tick (record { next = next₀; wait = entriesOf waiting₀ list₀ }))
+Inv-loop blocks mode tick first list₀ next₀ end list next =
+    (next ≤ end) × Lists most (entries list)
+    × ((counts : Counts) → arrivals (loadOf counts blocks) (end - next) mode tick (lineOf next list)
+    ≡ arrivals (loadOf counts blocks) (end - next₀) mode tick (lineOf next₀ list₀))
 
 abbrev μ-loop : tie.MeasureT-loop
-μ-loop blocks mode tick list₀ next₀ waiting₀ end list next waiting = end - next
+μ-loop blocks mode tick first list₀ next₀ end list next = end - next
 
 loop-holds : tie.Need-loop-holds Inv-loop μ-loop
-loop-holds c = (omega arith, omega arith, λ counts. refl)
+loop-holds c =
+    let k = c .before in
+    (k .pre .1 .arrived, lists-more (k .pre .0 .flows) (k .pre .1 .lists), λ counts. refl)
 
 arrival-requires : tie.Need-arrival-requires Inv-loop μ-loop
-arrival-requires c κs = omega arith
+arrival-requires c κs =
+    let k = c .before .before .before in
+    omega (arith, k .pre .0 .blocks, k .pre .0 .room)
 
 returns : tie.Need-returns Inv-loop μ-loop
 returns c =
     let k = c .before .before .before in
-    (sym (arrivals-late _ _ _ _ _ (omega arith) (rw (← (c .before .arrival .ensures)) (c .if1 .taken))) ∙ k .loop .inv .2 _, omega arith)
+    sym (arrivals-late _ _ _ _ _ (omega arith) (rw (← (c .before .arrival .ensures)) (c .if1 .taken))) ∙ k .loop .inv .2 _
 
 flow-of-requires : tie.Need-flow-of-requires Inv-loop μ-loop
-flow-of-requires c κs = omega arith
+flow-of-requires c κs =
+    let k = c .before .before .before .before .before in
+    omega (arith, k .pre .0 .blocks, k .pre .0 .room)
 
 arrive-requires : tie.Need-arrive-requires Inv-loop μ-loop
-arrive-requires c κs = omega arith
+arrive-requires c κs =
+    let k = c .before .before .before .before .before .before .before in
+    let at = c .before .before .before .before .before .loop in
+    (rw (c .before .flow-of .ensures) (omega (arith, k .pre .0 .flows, k .pre .0 .each (at .next) (omega arith) .flow)), at .inv .1)
 
 add-next : tie.Need-add-next Inv-loop μ-loop
 add-next c = omega arith
@@ -44,16 +56,17 @@ loop-less c = omega arith
 
 loop-again : tie.Need-loop-again Inv-loop μ-loop
 loop-again c =
-    let k = c .before .before .before .before .before .before in
-    let due = rw (c .before .before .before .before .arrival .ensures) at (c .before .before .before .if1 .left) in (
+    let k = c .before .before .before .before .before .before .before .before in
+    let at = c .before .before .before .before .before .before .loop in
+    let due = rw (c .before .before .before .before .arrival .ensures) at (c .before .before .before .if1 .left) in
+    let flow = c .before .before .flow-of .ensures in (
       omega arith,
-      omega arith,
-      λ counts. arrivals-step (loadOf counts (k .before .before .args .blocks .now)) _ _ _ _ _ _ _ (omega arith) due (c .before .before .flow-of .ensures) (c .arrive .ensures .0)
-          ∙ k .loop .inv .2 counts,
+      rw (c .arrive .ensures) (arrived-lists _ _ _ (rw flow (omega (arith, k .pre .0 .flows, k .pre .0 .each (at .next) (omega arith) .flow))) (at .inv .1)),
+      λ counts. arrivals-step (loadOf counts (k .args .blocks .now)) _ _ _ _ _ _ _ (omega arith) due flow (c .arrive .ensures) ∙ at .inv .2 counts,
     )
 
 returns-2 : tie.Need-returns-2 Inv-loop μ-loop
-returns-2 c = (sym (arrivals-none _ _ _ _ _ (omega arith)) ∙ c .before .loop .inv .2 _, omega arith)
+returns-2 c = sym (arrivals-none _ _ _ _ _ (omega arith)) ∙ c .before .loop .inv .2 _
 
 pub admit-spec : {M : Type 1} → statement M
 admit-spec =

@@ -3,16 +3,20 @@ use mathlib.Core.List.{[]}
 use mathlib.Core.Path.{ap, sym, _∙_}
 use native.Mathlib.Omega.{arith}
 use borrow.Author.Needs.{needs}
+use lib.ListN.{length}
 use Rattle.rules.specs.Load.{loadOf}
-use Rattle.rules.specs.Plan.{Core, woken}
+use Rattle.rules.specs.Plan.{Core, taken, woken}
+use Rattle.rules.proofs.Lists.{lists-few}
+use Rattle.waiting.proofs.Heads.{head-empty, head-flow}
 use Rattle.decide.proofs.Deciding.{readied-takes, readied-wakes}
-use Rattle.decide.proofs.Entries.{entries-none}
-use Rattle.decide.proofs.Taking.{head-empty, head-flow, none-waits}
+use Rattle.decide.proofs.Standing.{core-same, woken-takes}
 use Rattle.decide.proofs.settle.ready.Statement.{statement}
 use Rattle.decide.proofs.settle.ready.Tie as tie
 
 take-requires : tie.Need-take-requires
-take-requires c κs = search needs
+take-requires c κs =
+    let k = c .before .before in
+    omega (arith, lists-few (k .pre .1 .stands .lists), k .pre .0 .flows)
 
 enum-known-entry : tie.Need-enum-known-entry
 enum-known-entry c = search needs
@@ -22,30 +26,41 @@ enum-told c = search needs
 
 wake-requires : tie.Need-wake-requires
 wake-requires c κs =
-    let none = head-empty _ _ _ (c .before .before .before .take .ensures .0) (c .before .enum-told .given .1) in
-    omega arith
+    let k = c .before .before .before in
+    let e = k .before .before .before in
+    let none = head-empty (k .take .ensures .0) (k .take .ensures .1) (c .before .enum-told .given .1) in
+    (e .pre .0, rw (none .1 ∙ sym (none .0)) (e .pre .1 .stands))
 
 take-head-requires : tie.Need-take-head-requires
-take-head-requires c κs = let w = c .before .wake .ensures .1 in (w .0, rw (w .1) (omega arith))
+take-head-requires c κs =
+    let k = c .before .before .before .before .before in
+    let e = k .before .before .before in
+    let none = head-empty (k .take .ensures .0) (k .take .ensures .1) (c .before .before .before .enum-told .given .1) in
+    let takes = woken-takes _ (e .pre .0) (e .args .core) (k .take .last .0) (rw (none .1 ∙ sym (none .0)) (e .pre .1)) _ _ (c .before .wake .ensures) in
+    (omega (arith, lists-few (takes .stands .lists), e .pre .0 .flows), takes .number)
 
 returns : tie.Need-returns
 returns c = λ from gate.
     let w = c .before .before in
-    let taken = w .before .before .before .before in
-    let a = taken .before .before .before .args in
-    let none = head-empty _ _ _ (taken .take .ensures .0) (w .before .before .enum-told .given .1) in
-    let woke = w .wake .ensures .0 from gate ∙ ap (λ (x : Core). woken (loadOf (a .counts) (a .blocks .now)) x []) (none-waits (a .core) _ _ from gate none) in
-    c .take-head .ensures from gate ∙ sym (readied-wakes _ _ _ (entries-none _ _ (omega (arith, none))) woke)
+    let k = w .before .before .before .before in
+    let a = k .before .before .before .args in
+    let none = head-empty (k .take .ensures .0) (k .take .ensures .1) (w .before .before .enum-told .given .1) in
+    let woke = w .wake .ensures from gate ∙ ap (λ (x : Core). woken (loadOf (a .counts) (a .blocks .now)) x []) (core-same (a .core) _ _ from gate (none .1 ∙ sym (none .0))) in
+    c .take-head .ensures from gate ∙ sym (readied-wakes _ _ _ (none .0) woke)
 
 call-requires : tie.Need-call-requires
 call-requires c κs =
-    let head = head-flow _ _ _ (c .before .before .before .take .ensures .0) _ _ (c .before .before .before .take .ensures .1) (c .before .entry .given .1) in
-    (head .0, omega arith)
+    let k = c .before .before .before .before in
+    let e = k .before .before .before in
+    let head = head-flow (k .take .ensures .0) (k .take .ensures .1) _ (c .before .before .entry .given .1) in
+    let one-less = ap length head in
+    (omega (arith, lists-few (e .pre .1 .stands .lists), e .pre .0 .flows), e .pre .1 .number)
 
 returns-2 : tie.Need-returns-2
 returns-2 c = λ from gate.
-    let head = head-flow _ _ _ (c .before .before .before .before .take .ensures .0) _ _ (c .before .before .before .before .take .ensures .1) (c .before .before .entry .given .1) in
-    c .call .ensures _ _ from gate (head .1) ∙ sym (readied-takes _ _ _ _ (head .1))
+    let k = c .before .before .before .before .before in
+    let head = head-flow (k .take .ensures .0) (k .take .ensures .1) _ (c .before .before .before .entry .given .1) in
+    c .call .ensures (k .before .before .before .args .list .now) from gate ∙ ap (taken _) (sym head) ∙ sym (readied-takes _ _ _ _ head)
 
 pub ready-spec : {M : Type 1} → statement M
 ready-spec =

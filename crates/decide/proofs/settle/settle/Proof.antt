@@ -3,6 +3,7 @@ use mathlib.Core.Path.{ap, _∙_}
 use borrow.Author.Needs.{needs}
 use Rattle.rules.specs.Load.{loadOf}
 use Rattle.rules.specs.Plan.{onward, settled, State}
+use Rattle.decide.proofs.Standing.{tested-takes}
 use Rattle.decide.proofs.settle.settle.Statement.{statement}
 use Rattle.decide.proofs.settle.settle.Tie as tie
 
@@ -10,14 +11,17 @@ tested-requires : tie.Need-tested-requires
 tested-requires c κs = search needs
 
 onward-requires : tie.Need-onward-requires
-onward-requires c κs = search needs
+onward-requires c κs =
+    let k = c .before in
+    let e = k .before .before .before in
+    (e .pre .0, tested-takes _ (e .pre .0) _ _ (e .pre .1 .takes) _ (e .args .from .now) _ _ (e .pre .1 .away) (k .tested .ensures))
 
 returns : tie.Need-returns
 unfolding settled
 returns c = λ gate.
     let a = c .before .before .before .before .before .args in
     c .onward .ensures (a .from .now) gate
-    ∙ ap (λ (s : State). onward (loadOf (a .counts) (a .blocks .now)) (s .mode) (s .core)) (c .before .before .tested .ensures .0 gate)
+    ∙ ap (λ (s : State). onward (loadOf (a .counts) (a .blocks .now)) (s .mode) (s .core)) (c .before .before .tested .ensures gate)
 
 pub settle-spec : {M : Type 1} → statement M
 settle-spec = tie.close (tie.spec tested-requires onward-requires returns)

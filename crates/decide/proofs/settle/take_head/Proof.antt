@@ -2,11 +2,12 @@
 use mathlib.Core.Path.{ap, sym, _∙_}
 use native.Mathlib.Omega.{arith}
 use borrow.Author.Needs.{needs}
+use lib.ListN.{length}
 use Rattle.rules.specs.declared.mode.Mode.the-variants.{Idle}
-use Rattle.rules.specs.Plan.{state}
+use Rattle.rules.specs.Plan.{state, taken}
+use Rattle.waiting.proofs.Heads.{head-empty, head-flow}
 use Rattle.decide.proofs.Deciding.{taken-none}
-use Rattle.decide.proofs.Entries.{entries-none}
-use Rattle.decide.proofs.Taking.{head-empty, head-flow, none-waits}
+use Rattle.decide.proofs.Standing.{core-same}
 use Rattle.decide.proofs.settle.take_head.Statement.{statement}
 use Rattle.decide.proofs.settle.take_head.Tie as tie
 
@@ -22,18 +23,21 @@ enum-told c = search needs
 returns : tie.Need-returns
 unfolding state
 returns c = λ from gate.
-    let none = head-empty _ _ _ (c .before .before .take .ensures .0) (c .enum-told .given .1) in
-    ap (state Idle) (none-waits _ _ _ from gate none) ∙ sym (taken-none _ _ (entries-none _ _ (omega (arith, none))))
+    let none = head-empty (c .before .before .take .ensures .0) (c .before .before .take .ensures .1) (c .enum-told .given .1) in
+    ap (state Idle) (core-same _ _ _ from gate (none .1 ∙ sym (none .0))) ∙ sym (taken-none _ _ (none .0))
 
 call-requires : tie.Need-call-requires
 call-requires c κs =
-    let head = head-flow _ _ _ (c .before .before .before .take .ensures .0) _ _ (c .before .before .before .take .ensures .1) (c .before .entry .given .1) in
-    (head .0, omega arith)
+    let k = c .before .before .before .before in
+    let head = head-flow (k .take .ensures .0) (k .take .ensures .1) _ (c .before .before .entry .given .1) in
+    let one-less = ap length head in
+    (omega (arith, k .before .before .pre .0), k .before .before .pre .1)
 
 returns-2 : tie.Need-returns-2
 returns-2 c = λ from gate.
-    let head = head-flow _ _ _ (c .before .before .before .before .take .ensures .0) _ _ (c .before .before .before .before .take .ensures .1) (c .before .before .entry .given .1) in
-    c .call .ensures _ _ from gate (head .1)
+    let k = c .before .before .before .before .before in
+    let head = head-flow (k .take .ensures .0) (k .take .ensures .1) _ (c .before .before .before .entry .given .1) in
+    c .call .ensures (k .before .before .args .list .now) from gate ∙ ap (taken _) (sym head)
 
 pub take-head-spec : {M : Type 1} → statement M
 take-head-spec =

@@ -1,45 +1,51 @@
 -- `decide::settle::test_turn` meets its contract: whether a block waits, and whether the balance is 0 or more, picks the case of `tested`.
-use mathlib.Core.Path.{ap, refl, sym, _∙_}
+use mathlib.Core.Path.{ap, sym, _∙_}
 use native.Mathlib.Omega.{arith}
 use borrow.Author.Needs.{needs}
 use Rattle.rules.specs.declared.mode.Mode.the-variants.{Idle}
 use Rattle.rules.specs.Plan.{oldest, state}
+use Rattle.rules.specs.Within.{Away}
+use Rattle.rules.proofs.Lists.{lists-room}
 use Rattle.decide.proofs.Deciding.{tested-goes-on, tested-leaves, tested-rejoins}
 use Rattle.decide.proofs.settle.test_turn.Statement.{statement}
 use Rattle.decide.proofs.settle.test_turn.Tie as tie
 
 mul-oldest : tie.Need-mul-oldest
+unfolding Away
 mul-oldest c = search needs
 
 element-copy-out-oldest : tie.Need-element-copy-out-oldest
+unfolding Away
 element-copy-out-oldest c = search needs
 
 oldest-requires : tie.Need-oldest-requires
-oldest-requires c κs = search needs
+oldest-requires c κs =
+    let k = c .before .before in
+    omega (arith, k .pre .0 .room, k .pre .1 .0 .arrived)
 
 returns : tie.Need-returns
 unfolding oldest state
-returns c = (λ gate. sym (tested-leaves _ _ _ _ (c .before .oldest .ensures) (c .if1 .taken)), (omega arith, omega arith, refl))
+returns c = λ gate. sym (tested-leaves _ _ _ _ (c .before .oldest .ensures) (c .if1 .taken))
 
 returns-2 : tie.Need-returns-2
 unfolding oldest state
-returns-2 c = (λ gate. sym (tested-goes-on _ _ _ _ (c .before .before .before .oldest .ensures) (c .before .before .if1 .left) (omega (arith, c .if2 .taken))), (omega arith, omega arith, refl))
-
-returns-3 : tie.Need-returns-3
-unfolding oldest state
-returns-3 c =
-    let k = c .before .before .before .before .before .before in (
-      λ gate.
-          ap (state Idle) (c .rejoin .ensures .0 (k .before .before .before .args .from .now) gate)
-          ∙ sym (tested-rejoins _ _ _ _ (k .oldest .ensures) (c .before .before .before .before .before .if1 .left) (omega (arith, c .before .before .before .if2 .left))),
-      (omega (arith, c .rejoin .ensures .1 .0, c .rejoin .ensures .1 .1), omega (arith, c .rejoin .ensures .1 .1), c .rejoin .ensures .1 .2),
-    )
+returns-2 c = λ gate. sym (tested-goes-on _ _ _ _ (c .before .before .before .oldest .ensures) (c .before .before .if1 .left) (omega (arith, c .if2 .taken)))
 
 sub-excess : tie.Need-sub-excess
 sub-excess c = search needs
 
 rejoin-requires : tie.Need-rejoin-requires
-rejoin-requires c κs = search needs
+unfolding Away
+rejoin-requires c κs =
+    let k = c .before .before .before .before .before .before .before .before in
+    omega (arith, lists-room _ (k .pre .1 .0 .lists) (k .pre .1 .1 .0) (k .pre .1 .1 .1), k .pre .0 .flows)
+
+returns-3 : tie.Need-returns-3
+unfolding oldest state
+returns-3 c = λ gate.
+    let k = c .before .before .before .before .before .before in
+    ap (state Idle) (c .rejoin .ensures (k .before .before .before .args .from .now) gate)
+    ∙ sym (tested-rejoins _ _ _ _ (k .oldest .ensures) (c .before .before .before .before .before .if1 .left) (omega (arith, c .before .before .before .if2 .left)))
 
 pub test-turn-spec : {M : Type 1} → statement M
 test-turn-spec =

@@ -1,8 +1,8 @@
 -- `decide::settle::tested` meets its contract, mode by mode.
-use mathlib.Core.Path.{refl, sym, _∙_}
+use mathlib.Core.Path.{sym, _∙_}
 use borrow.Author.Needs.{needs}
 use Rattle.rules.specs.Plan.{state}
-use Rattle.decide.proofs.Modes.{line-in-turn, line-short, tested-held, tested-idle, tested-turn}
+use Rattle.decide.proofs.Modes.{tested-held, tested-idle, tested-turn}
 use Rattle.decide.proofs.settle.tested.Statement.{statement}
 use Rattle.decide.proofs.settle.tested.Tie as tie
 
@@ -18,24 +18,18 @@ enum-known-mode c = search needs
 test-turn-requires : tie.Need-test-turn-requires
 test-turn-requires c κs =
     let k = c .before .before .before .before .before .before in
-    let line = line-in-turn _ _ _ (c .before .before .mode .given .1) (k .pre .1 .line) in
-    (k .pre .0 .0, k .pre .0 .1, k .pre .1 .next, line .0, line .1)
+    (k .pre .0, (k .pre .1 .takes .stands, rw (c .before .before .mode .given .1) at (k .pre .1 .away)))
 
 returns : tie.Need-returns
 unfolding state
-returns c =
-    let k = c .before .before .before .before in
-    (λ gate. sym (tested-idle _ _ _ (c .enum-told .given .1)), (line-short _ _ (k .pre .1 .line), k .pre .1 .next, refl))
+returns c = λ gate. sym (tested-idle _ _ _ (c .enum-told .given .1))
 
 returns-2 : tie.Need-returns-2
 unfolding state
-returns-2 c =
-    let k = c .before .before .before .before in
-    (λ gate. sym (tested-held _ _ _ _ (c .enum-told2 .given .1)), (line-short _ _ (k .pre .1 .line), k .pre .1 .next, refl))
+returns-2 c = λ gate. sym (tested-held _ _ _ _ (c .enum-told2 .given .1))
 
 returns-3 : tie.Need-returns-3
-returns-3 c =
-    (λ gate. c .test-turn .ensures .0 gate ∙ sym (tested-turn _ _ _ _ (c .before .before .before .mode .given .1)), c .test-turn .ensures .1)
+returns-3 c = λ gate. c .test-turn .ensures gate ∙ sym (tested-turn _ _ _ _ (c .before .before .before .mode .given .1))
 
 pub tested-spec : {M : Type 1} → statement M
 tested-spec =

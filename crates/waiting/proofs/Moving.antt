@@ -1,4 +1,4 @@
--- A move of words two places down, one word a turn.
+-- A move of words two places down, one word a turn of the loop: what holds before each turn, and that a turn keeps it.
 use Prim.Native.Nat.{ℕ, _+_, _≤_, _<_}
 use mathlib.Core.List.{List}
 use mathlib.Core.Path.{_≡_, refl, _∙_}

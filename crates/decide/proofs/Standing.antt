@@ -1,0 +1,81 @@
+-- What a decision asks still holds after the parts of it: the arrivals up to a tick, and the test of a turn, leave a list of flows of
+-- the load, none twice, and the round's number.
+use Prim.Native.Nat.{ℕ, _+_, _≤_}
+use mathlib.Core.Bool.{cond}
+use mathlib.Core.List.{List, []}
+use mathlib.Core.Path.{_≡_, refl, sym, ap}
+use native.Mathlib.Omega.{arith}
+use lib.Dec.{leb, ltb}
+use Rattle.load.proofs.Cases.{by-test}
+use Rattle.rules.specs.declared.entry.Entry.{Entry}
+use Rattle.rules.specs.declared.mode.Mode.the-variants.{Idle, Holds, InTurn}
+use Rattle.rules.specs.declared.mode.Mode.{Mode}
+use Rattle.rules.specs.declared.round.Round.{Round}
+use Rattle.rules.specs.Account.{noted}
+use Rattle.rules.specs.Load.{Load, blockAt}
+use Rattle.rules.specs.Plan.{Core, Line, State, rejoined, state, tested, upTo, waits, withLine, withRound, woken}
+use Rattle.rules.specs.Within.{Accepted, Away}
+use Rattle.rules.proofs.Lists.{lists-join, upTo-keep, upTo-lists}
+use Rattle.decide.specs.declared.state.Core as code
+use Rattle.decide.specs.declared.state.Planner.{Planner}
+use Rattle.decide.specs.Room.{Settles, Stands, Takes}
+use Rattle.decide.specs.State.{BecomesFrom, CoreBecomes, coreOf, stateOf}
+use Rattle.waiting.specs.Entries.{entries}
+
+-- the list counts by its entries alone
+pub core-same : (c : code.Core) (list list′ from gate : List ℕ) → entries list′ ≡ entries list → coreOf c list′ from gate ≡ coreOf c list from gate
+core-same c list list′ from gate e =
+    ap (λ (w : List Entry). record { clock = c .clock; line = record { next = c .next; wait = w }; round = c .round; turns = c .turns; from = from; gate = gate; way = c .way }) e
+
+-- of the definition's core: what has arrived, and the round before
+record Keeps (L : Load) (r : Round) (c : Core) : Type 0 where
+  stands : Stands L (c .line .next) (c .line .wait)
+  number : c .round .number ≡ r .number
+
+module _ (L : Load) (ok : Accepted L) (c : Core) (s : Stands L (c .line .next) (c .line .wait)) where
+  upTo-keeps : (m : Mode) (t : ℕ) → Keeps L (c .round) (upTo L m t c)
+  unfolding upTo
+  upTo-keeps m t = record {
+    stands = record {
+      arrived = upTo-keep L m t (λ l. l .next ≤ L .counts .blocks) (λ l h _. omega arith) c (s .arrived) (s .arrived);
+      lists = upTo-lists L ok m t c (s .arrived) (s .lists);
+    };
+    number = refl;
+  }
+
+  kept : Keeps L (c .round) c
+  kept = record { stands = s; number = refl }
+
+  woken-keeps : Keeps L (c .round) (woken L c [])
+  unfolding woken
+  woken-keeps = by-test (Keeps L (c .round)) (ltb (c .line .next) (L .counts .blocks)) (λ _. upTo-keeps Idle _) (λ _. kept)
+
+  tested-keeps : (m : Mode) → Away (L .counts .flows) m (c .line .wait) → Keeps L (c .round) (tested L m c .core)
+  unfolding tested state Away rejoined withLine withRound noted
+  tested-keeps Idle a = kept
+  tested-keeps (Holds h) a = kept
+  tested-keeps (InTurn t) a =
+      by-test (λ (x : State). Keeps L (c .round) (x .core)) (waits L c (t .flow))
+      (λ _. by-test (λ (x : State). Keeps L (c .round) (x .core)) (leb (t .spent) (t .allowance))
+      (λ _. kept)
+      (λ _. record { stands = record { arrived = s .arrived; lists = lists-join _ (s .lists) (a .0) (a .1) }; number = refl }))
+      (λ _. kept)
+
+-- the same of the code's
+module _ (L : Load) (ok : Accepted L) (c : code.Core) (list : List ℕ) where
+  module _ (s : Stands L (c .next) (entries list)) (c′ : code.Core) (list′ : List ℕ) where
+    pub upTo-stands : (m : Mode) (t : ℕ) → CoreBecomes (upTo L m t) c list c′ list′ → Stands L (c′ .next) (entries list′)
+    upTo-stands m t e = rw (← (e [] [])) at (upTo-keeps L ok (coreOf c list [] []) s m t) .stands
+
+  -- a flow is taken where the planner has woken, and where a turn has been tested
+  module _ (k : Takes L c (entries list)) where
+    pub woken-takes : (c′ : code.Core) (list′ : List ℕ) → CoreBecomes (λ (x : Core). woken L x []) c list c′ list′ → Takes L c′ (entries list′)
+    woken-takes c′ list′ e =
+        let w = rw (← (e [] [])) at (woken-keeps L ok (coreOf c list [] []) (k .stands)) in
+        record { stands = w .stands; number = rw (w .number) (k .number) }
+
+    pub tested-takes : (m : Mode) (from : List ℕ) (p : Planner) (list′ : List ℕ) → Away (L .counts .flows) m (entries list)
+        → BecomesFrom from (tested L m) c list p list′ → Takes L (p .core) (entries list′)
+    tested-takes m from p list′ a e =
+        let w = rw (← (e [])) at (tested-keeps L ok (coreOf c list from []) (k .stands) m a) in
+        record { stands = w .stands; number = rw (w .number) (k .number) }
