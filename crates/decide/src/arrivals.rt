@@ -1,13 +1,12 @@
 // Arrivals up to a tick: a flow joins the list when a block of its arrives and it is neither listed, held nor in its turn.
 ghost use mathlib.Core.Path.{_≡_};
-ghost use Prim.Native.Nat.{_+_, _*_, _-_, _≤_, _<_};
-ghost use lib.ListN.{length};
+ghost use Prim.Native.Nat.{_-_, _<_};
 ghost use Rattle.rules.specs.Load.{blockAt, loadOf};
 ghost use Rattle.rules.specs.Plan.{arrivals, arrived, busy as Plan·busy, upTo};
 ghost use Rattle.rules.specs.Waiting.{Lists};
 ghost use Rattle.rules.specs.Within.{Accepted};
 ghost use Rattle.waiting.specs.Entries.{entries, most};
-ghost use Rattle.decide.specs.Room.{Stands};
+ghost use Rattle.decide.specs.Room.{HasBlock, Stands};
 ghost use Rattle.decide.specs.State.{CoreBecomes, lineOf};
 use crate::state::Core;
 use load::counts::Counts;
@@ -42,7 +41,7 @@ fn arrive(mode: Mode, flow: usize, list: &mut Storage)
 
 // The tick at which a block arrives.
 pub fn arrival(blocks: &[u32], block: usize) -> u64
-    requires { ⌜ (6 * block + 6 ≤ length (now blocks)) × (block < 1024) ⌝ }
+    requires { ⌜ HasBlock (now blocks) block ⌝ }
     ensures { λ r. ⌜ r ≡ blockAt (now (blocks .entry)) block .arrival ⌝ }
 {
     let at = 6 * block + 1;
@@ -50,7 +49,7 @@ pub fn arrival(blocks: &[u32], block: usize) -> u64
 }
 
 fn flow_of(blocks: &[u32], block: usize) -> usize
-    requires { ⌜ (6 * block + 6 ≤ length (now blocks)) × (block < 1024) ⌝ }
+    requires { ⌜ HasBlock (now blocks) block ⌝ }
     ensures { λ r. ⌜ r ≡ blockAt (now (blocks .entry)) block .flow ⌝ }
 {
     let at = 6 * block;

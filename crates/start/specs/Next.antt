@@ -1,10 +1,10 @@
--- The answer of one start, and the planner before the first, as the definition's.
+-- The answer of one start, and the core before the first, as the definition's.
 use Prim.Native.Nat.{ℕ}
 use mathlib.Core.List.{List}
 use mathlib.Core.Option.{Option, none, some}
 use Rattle.rules.specs.Plan as plan
 use Rattle.decide.specs.declared.state.Core.{Core}
-use Rattle.decide.specs.Storage.{stateOf}
+use Rattle.decide.specs.State.{stateOf}
 use Rattle.start.specs.declared.step.Next.{Next}
 use Rattle.start.specs.declared.step.Next.the-variants.{Start, Done}
 
@@ -16,7 +16,7 @@ nextOf (Start row p) list from gate = some (record { row = row; then = stateOf p
 unfoldable pub atFirst : Core
 atFirst = record {
   clock = 0;
-  line = record { next = 0; waiting = 0 };
+  next = 0;
   round = record { number = 0; left = 0; credit = 0; most = 0 };
   turns = 0;
   way = record { one = plan.none-yet; two = plan.none-yet; three = plan.none-yet; four = plan.none-yet };

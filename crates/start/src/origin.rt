@@ -1,21 +1,22 @@
 // The planner before the first start.
 ghost use mathlib.Core.Path.{_≡_};
-ghost use Prim.Native.Nat.{_*_, _≤_};
-ghost use lib.ListN.{length, replicate};
+ghost use mathlib.Core.List.{[]};
+ghost use lib.ListN.{replicate};
 ghost use Rattle.rules.specs.Load.{loadOf};
 ghost use Rattle.rules.specs.Plan.{origin as Plan·origin};
-ghost use Rattle.decide.specs.Storage.{stateOf};
+ghost use Rattle.rules.specs.Within.{Accepted};
+ghost use Rattle.waiting.specs.Entries.{entries};
+ghost use Rattle.decide.specs.State.{stateOf};
 ghost use Rattle.start.specs.Next.{atFirst};
 use decide::arrivals;
-use decide::list::Storage;
 use decide::state::Core;
-use decide::state::Line;
 use decide::state::Planner;
 use load::counts::Counts;
 use rules::mode::Mode;
 use rules::round::Round;
 use rules::stages::Span;
 use rules::stages::Way;
+use waiting::Storage;
 
 // The core before anything has arrived.
 fn nothing() -> Core
@@ -37,13 +38,9 @@ fn nothing() -> Core
         credit: 0,
         most: 0,
     };
-    let line = Line {
-        next: 0,
-        waiting: 0,
-    };
     Core {
         clock: 0,
-        line,
+        next: 0,
         round,
         turns: 0,
         way,
@@ -52,7 +49,7 @@ fn nothing() -> Core
 
 // The planner at tick 0, with the arrivals of that tick.
 pub fn origin(counts: Counts, blocks: &[u32], list: &mut Storage) -> Planner
-    requires { ⌜ (counts .blocks ≤ 1024) × (6 * counts .blocks ≤ length (now blocks)) ⌝ }
+    requires { ⌜ Accepted (loadOf counts (now blocks)) × (entries (now list) ≡ []) ⌝ }
     ensures { λ r. ⌜ stateOf r (now (list .exit)) (replicate 64 0) (replicate 64 0) ≡ Plan·origin (loadOf counts (now (blocks .entry))) ⌝ }
 {
     let core = arrivals::up_to(counts, blocks, Mode::Idle, 0, nothing(), list);

@@ -1,17 +1,17 @@
 // One start.
 ghost use mathlib.Core.Path.{_≡_};
 ghost use mathlib.Core.List.{List};
-ghost use Prim.Native.Nat.{ℕ, _+_, _*_, _-_, _≤_, _<_};
-ghost use lib.ListN.{getD, length};
+ghost use Prim.Native.Nat.{ℕ, _-_, _≤_, _<_};
 ghost use Rattle.rules.specs.declared.mode.Mode.the-variants.{Holds, InTurn};
 ghost use Rattle.rules.specs.Load.{blockAt, loadOf};
 ghost use Rattle.rules.specs.Plan.{after as Plan·after, begins, begun, rowOf, spent, started, step as Plan·step, upTo};
-ghost use Rattle.rules.specs.Within.{Accepted, WayWithin};
-ghost use Rattle.start.specs.Starting.{Starts, Steps};
-ghost use Rattle.decide.specs.Storage.{coreOf, stateOf};
+ghost use Rattle.rules.specs.Within.{Accepted};
+ghost use Rattle.waiting.specs.Entries.{entries};
+ghost use Rattle.decide.specs.Room.{HasBlock, Stands};
+ghost use Rattle.decide.specs.State.{CoreBecomes, coreOf, stateOf};
 ghost use Rattle.start.specs.Next.{nextOf};
+ghost use Rattle.start.specs.Starting.{HeldFits, most, Starts, Steps, Timed, TurnFits};
 use decide::arrivals;
-use decide::list::Storage;
 use decide::queue;
 use decide::settle;
 use decide::state::Core;
@@ -22,6 +22,7 @@ use rules::mode::HeldFlow;
 use rules::mode::Mode;
 use rules::mode::Turn;
 use rules::row::Row;
+use waiting::Storage;
 
 // The next start and the planner after it, or that nothing is left to start.
 pub enum Next {
@@ -37,7 +38,7 @@ fn less(a: u64, b: u64) -> u64
 
 // The row of the block at a place of the table that starts at the clock.
 fn row_of(counts: Counts, blocks: &[u32], core: Core, turn: Turn, hold: u64, place: usize) -> Row
-    requires { ⌜ (6 * place + 6 ≤ length (now blocks)) × (place < 1024) × (core .clock ≤ 100000000000) × WayWithin (core .way) 100000000000 ⌝ }
+    requires { ⌜ HasBlock (now blocks) place × Timed core ⌝ }
     ensures { λ r. ⌜ ((list from gate : List ℕ) → r ≡ rowOf (loadOf counts (now (blocks .entry))) (coreOf core list from gate) turn hold place) ⌝ }
 {
     let at = 6 * place;
@@ -58,7 +59,7 @@ fn row_of(counts: Counts, blocks: &[u32], core: Core, turn: Turn, hold: u64, pla
 
 // The block's dominant time is taken from the balance.
 fn spend(blocks: &[u32], turn: Turn, place: usize) -> Turn
-    requires { ⌜ (6 * place + 6 ≤ length (now blocks)) × (place < 1024) × (turn .spent ≤ 100000000000) ⌝ }
+    requires { ⌜ HasBlock (now blocks) place × (turn .spent ≤ most) ⌝ }
     ensures { λ r. ⌜ r ≡ spent turn (blockAt (now (blocks .entry)) place) ⌝ }
 {
     let at = 6 * place;
@@ -80,20 +81,21 @@ fn after(
     list: &mut Storage,
     from: &mut [usize; 64],
 ) -> Planner
-    requires { ⌜ (counts .blocks ≤ 1024) × (6 * counts .blocks ≤ length (now blocks)) × (row .block < counts .blocks) × Starts counts core ⌝ }
-    requires { ⌜ (turn .flow < 64) × (turn .spent ≤ 100000000000) ⌝ }
-    ensures { λ r. ⌜ ((old gate : List ℕ) → stateOf r (now (list .exit)) (now (from .exit)) gate ≡ Plan·after (loadOf counts (now (blocks .entry))) (coreOf core (now (list .entry)) (now (from .entry)) old) turn gate row) ⌝ }
+    requires { ⌜ Accepted (loadOf counts (now blocks)) ⌝ }
+    requires { ⌜ Starts (loadOf counts (now blocks)) core (entries (now list)) × (row .block < counts .blocks) ⌝ }
+    requires { ⌜ TurnFits turn ⌝ }
+    ensures { λ r. ⌜ ((old gate : List ℕ) → stateOf r (now (list .exit)) (now (from .exit)) gate
+        ≡ Plan·after (loadOf counts (now (blocks .entry))) (coreOf core (now (list .entry)) (now (from .entry)) old) turn gate row) ⌝ }
 {
     let flow = turn.flow;
     let place = row.block as usize;
     let next = spend(blocks, turn, place);
     from[flow] = place + 1;
-    let line = core.line;
     let round = core.round;
     let way = row.way;
     let begun = Core {
         clock: core.clock,
-        line,
+        next: core.next,
         round,
         turns: core.turns,
         way,
@@ -121,12 +123,13 @@ fn further(
     list: &mut Storage,
     from: &mut [usize; 64],
 ) -> Next
-    requires { ⌜ (counts .blocks ≤ 1024) × (6 * counts .blocks ≤ length (now blocks)) × Starts counts core ⌝ }
-    requires { ⌜ (turn .flow < 64) × (turn .spent ≤ 100000000000) ⌝ }
-    ensures { λ r. ⌜ ((gate : List ℕ) → nextOf r (now (list .exit)) (now (from .exit)) gate ≡ started (loadOf counts (now (blocks .entry))) (InTurn turn) (coreOf core (now (list .entry)) (now (from .entry)) gate)) ⌝ }
+    requires { ⌜ Accepted (loadOf counts (now blocks)) ⌝ }
+    requires { ⌜ Starts (loadOf counts (now blocks)) core (entries (now list)) × TurnFits turn ⌝ }
+    ensures { λ r. ⌜ ((gate : List ℕ) → nextOf r (now (list .exit)) (now (from .exit)) gate
+        ≡ started (loadOf counts (now (blocks .entry))) (InTurn turn) (coreOf core (now (list .entry)) (now (from .entry)) gate)) ⌝ }
 {
     let flow = turn.flow;
-    let next = core.line.next;
+    let next = core.next;
     let place = queue::oldest(blocks, flow, from[flow], next);
     if next <= place {
         return Next::Done;
@@ -147,12 +150,13 @@ fn first(
     from: &mut [usize; 64],
     gate: &mut [u64; 64],
 ) -> Next
-    requires { ⌜ (counts .blocks ≤ 1024) × (6 * counts .blocks ≤ length (now blocks)) × Starts counts core ⌝ }
-    requires { ⌜ (turn .flow < 64) × (turn .spent ≤ 100000000000) ⌝ }
-    ensures { λ r. ⌜ nextOf r (now (list .exit)) (now (from .exit)) (now (gate .exit)) ≡ begins (loadOf counts (now (blocks .entry))) (coreOf core (now (list .entry)) (now (from .entry)) (now (gate .entry))) turn hold ⌝ }
+    requires { ⌜ Accepted (loadOf counts (now blocks)) ⌝ }
+    requires { ⌜ Starts (loadOf counts (now blocks)) core (entries (now list)) × TurnFits turn ⌝ }
+    ensures { λ r. ⌜ nextOf r (now (list .exit)) (now (from .exit)) (now (gate .exit))
+        ≡ begins (loadOf counts (now (blocks .entry))) (coreOf core (now (list .entry)) (now (from .entry)) (now (gate .entry))) turn hold ⌝ }
 {
     let flow = turn.flow;
-    let next = core.line.next;
+    let next = core.next;
     let place = queue::oldest(blocks, flow, from[flow], next);
     if next <= place {
         return Next::Done;
@@ -173,17 +177,16 @@ fn hold_until(
     tick: u64,
     list: &mut Storage,
 ) -> Core
-    requires { ⌜ (counts .blocks ≤ 1024) × (6 * counts .blocks ≤ length (now blocks)) × Starts counts core × (core .turns < 1000000) × (tick ≤ 100000000000) ⌝ }
-    ensures { λ r. ⌜ ((from gate : List ℕ) → coreOf r (now (list .exit)) from gate ≡ begun (upTo (loadOf counts (now (blocks .entry))) (Holds held) tick (coreOf core (now (list .entry)) from gate))) ⌝ }
-    ensures { λ r. ⌜ Starts counts r ⌝ }
+    requires { ⌜ Accepted (loadOf counts (now blocks)) ⌝ }
+    requires { ⌜ Stands (loadOf counts (now blocks)) (core .next) (entries (now list)) × (core .turns < 1_000_000) ⌝ }
+    ensures { λ r. ⌜ CoreBecomes (λ c. begun (upTo (loadOf counts (now (blocks .entry))) (Holds held) tick c)) core (now (list .entry)) r (now (list .exit)) ⌝ }
 {
     let woken = arrivals::up_to(counts, blocks, Mode::Holds(held), tick, core, list);
-    let line = woken.line;
     let round = woken.round;
     let way = woken.way;
     Core {
         clock: woken.clock,
-        line,
+        next: woken.next,
         round,
         turns: woken.turns + 1,
         way,
@@ -200,9 +203,10 @@ fn hold(
     from: &mut [usize; 64],
     gate: &mut [u64; 64],
 ) -> Next
-    requires { ⌜ (counts .blocks ≤ 1024) × (6 * counts .blocks ≤ length (now blocks)) × Starts counts core × (core .turns < 1000000) ⌝ }
-    requires { ⌜ (held .flow < 64) × (held .excess ≤ 100000000000) × (held .ready ≤ 100000000000) × (getD (now gate) (held .flow) 0 ≤ 100000000000) ⌝ }
-    ensures { λ r. ⌜ nextOf r (now (list .exit)) (now (from .exit)) (now (gate .exit)) ≡ started (loadOf counts (now (blocks .entry))) (Holds held) (coreOf core (now (list .entry)) (now (from .entry)) (now (gate .entry))) ⌝ }
+    requires { ⌜ Accepted (loadOf counts (now blocks)) ⌝ }
+    requires { ⌜ Starts (loadOf counts (now blocks)) core (entries (now list)) × (core .turns < 1_000_000) × HeldFits held (now gate) ⌝ }
+    ensures { λ r. ⌜ nextOf r (now (list .exit)) (now (from .exit)) (now (gate .exit))
+        ≡ started (loadOf counts (now (blocks .entry))) (Holds held) (coreOf core (now (list .entry)) (now (from .entry)) (now (gate .entry))) ⌝ }
 {
     let flow = held.flow;
     let tick = stages::later(held.ready, gate[flow]);
@@ -227,7 +231,8 @@ pub fn step(
 ) -> Next
     requires { ⌜ Accepted (loadOf counts (now blocks)) ⌝ }
     requires { ⌜ Steps (loadOf counts (now blocks)) (stateOf planner (now list) (now from) (now gate)) ⌝ }
-    ensures { λ r. ⌜ nextOf r (now (list .exit)) (now (from .exit)) (now (gate .exit)) ≡ Plan·step (loadOf counts (now (blocks .entry))) (stateOf planner (now (list .entry)) (now (from .entry)) (now (gate .entry))) ⌝ }
+    ensures { λ r. ⌜ nextOf r (now (list .exit)) (now (from .exit)) (now (gate .exit))
+        ≡ Plan·step (loadOf counts (now (blocks .entry))) (stateOf planner (now (list .entry)) (now (from .entry)) (now (gate .entry))) ⌝ }
 {
     let settled = settle::settle(counts, blocks, planner, list, from);
     let mode = settled.mode;

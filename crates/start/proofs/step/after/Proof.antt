@@ -31,7 +31,7 @@ returns c = λ old gate.
     let a = k .before .before .args in
     let next = spent (a .turn) (blockAt (a .blocks .now) (a .row .block)) in
     rw (k .spend .ensures)
-    (ap (state (InTurn next)) (rw (k .spend .ensures) at (c .up-to .ensures .0 (set (a .from .now) (a .turn .flow) (a .row .block + 1)) gate)))
+    (ap (state (InTurn next)) (rw (k .spend .ensures) at (c .up-to .ensures (set (a .from .now) (a .turn .flow) (a .row .block + 1)) gate)))
 
 pub after-spec : {M : Type 1} → statement M
 after-spec =

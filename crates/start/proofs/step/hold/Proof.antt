@@ -27,7 +27,7 @@ unfolding started heldUntil turnOf
 returns c =
     let k = c .before .before .before .before in
     let a = k .before .before .before .before .before .args in
-    rw (← (k .before .before .later .ensures), ← (k .hold-until .ensures .0 (a .from .now) (a .gate .now))) (c .first .ensures)
+    rw (← (k .before .before .later .ensures), ← (k .hold-until .ensures (a .from .now) (a .gate .now))) (c .first .ensures)
 
 pub hold-spec : {M : Type 1} → statement M
 hold-spec =

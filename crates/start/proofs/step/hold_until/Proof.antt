@@ -14,23 +14,11 @@ add-t13 : tie.Need-add-t13
 unfolding upTo
 add-t13 c =
     let k = c .before .before .before .before in
-    let same = ap (λ (x : Core). x .turns) (k .up-to .ensures .0 [] []) in
-    omega (arith, same, k .before .before .before .pre .3)
+    let same = ap (λ (x : Core). x .turns) (k .up-to .ensures [] []) in
+    omega (arith, same, k .before .before .pre .1 .1)
 
 returns : tie.Need-returns
-unfolding begun upTo
-returns c =
-    let k = c .before .before .before .before in
-    let whole = k .up-to .ensures .0 [] [] in
-    let pre = k .before .before .before .pre in (
-      (λ from gate. ap begun (k .up-to .ensures .0 from gate)),
-      record {
-        next = k .up-to .ensures .1 .1;
-        line = k .up-to .ensures .1 .0;
-        clock = rw (ap (λ (x : Core). x .clock) whole) (pre .4);
-        way = rw (ap (λ (x : Core). x .way) whole) (pre .2 .way);
-      },
-    )
+returns c = λ from gate. ap begun (c .before .before .before .up-to .ensures from gate)
 
 pub hold-until-spec : {M : Type 1} → statement M
 hold-until-spec = tie.close (tie.spec up-to-requires add-t13 returns)

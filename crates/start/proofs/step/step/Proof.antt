@@ -4,15 +4,15 @@ use borrow.Author.Needs.{needs}
 use Rattle.rules.specs.Load.{loadOf}
 use Rattle.rules.specs.Plan.{started, State, step}
 use Rattle.start.specs.Next.{nextOf}
-use Rattle.decide.specs.Storage.{stateOf}
-use Rattle.start.proofs.Reaching.{few-turns, held-within, settled-steps, settles, started-at, started-idle, starting, turn-within}
+use Rattle.decide.specs.State.{stateOf}
+use Rattle.start.proofs.Reaching.{few-turns, held-fits, settled-steps, settles, started-at, started-idle, starting, turn-fits}
 use Rattle.start.proofs.step.step.Statement.{statement}
 use Rattle.start.proofs.step.step.Tie as tie
 
 settle-requires : tie.Need-settle-requires
 settle-requires c κs =
     let k = c .before .before .before in
-    ((k .pre .0 .blocks, k .pre .0 .room), settles _ _ _ _ _ _ (k .pre .1))
+    (k .pre .0, settles _ _ _ _ _ _ (k .pre .1))
 
 enum-told : tie.Need-enum-told
 enum-told c = search needs
@@ -25,10 +25,8 @@ hold-requires c κs =
     let k = c .before .before .before .before .before .before .before in
     let e = k .before .before .before .before in
     let a = e .args in
-    let reached = settled-steps _ (e .pre .0) _ (stateOf (k .settle .result) _ (a .from .now) (a .gate .now)) (e .pre .1) (k .settle .ensures (a .gate .now)) in (
-      (e .pre .0 .blocks, e .pre .0 .room, starting _ _ _ _ _ _ reached, few-turns _ _ _ _ _ _ reached),
-      held-within _ _ _ _ _ _ reached _ (c .before .before .before .before .mode .given .1),
-    )
+    let reached = settled-steps _ (e .pre .0) _ (stateOf (k .settle .result) _ (a .from .now) (a .gate .now)) (e .pre .1) (k .settle .ensures (a .gate .now)) in
+    (e .pre .0, starting _ _ _ _ _ _ reached, few-turns _ _ _ _ _ _ reached, held-fits _ _ _ _ _ _ reached (e .pre .0) _ (c .before .before .before .before .mode .given .1))
 
 enum-known-mode-2 : tie.Need-enum-known-mode-2
 enum-known-mode-2 c = search needs
@@ -39,7 +37,7 @@ further-requires c κs =
     let e = k .before .before .before .before in
     let a = e .args in
     let reached = settled-steps _ (e .pre .0) _ (stateOf (k .settle .result) _ (a .from .now) (a .gate .now)) (e .pre .1) (k .settle .ensures (a .gate .now)) in
-    ((e .pre .0 .blocks, e .pre .0 .room, starting _ _ _ _ _ _ reached), turn-within _ _ _ _ _ _ reached _ (c .before .before .before .mode2 .given .1))
+    (e .pre .0, starting _ _ _ _ _ _ reached, turn-fits _ _ _ _ _ _ reached (e .pre .0) _ (c .before .before .before .mode2 .given .1))
 
 returns : tie.Need-returns
 unfolding step nextOf
