@@ -1,4 +1,5 @@
--- The planner keeps its bounds: each part of a step, on the definitions alone.
+-- The planner keeps its bounds: each part of a step, on the definitions alone. So they hold in every state of the plan (`reached-within`),
+-- and in none are more flows listed than the load has (`reached-few`).
 use Prim.Native.Nat.{ℕ, _+_, _-_, _≤_, _<_}
 use mathlib.Core.Bool.{Bool, true, false, cond}
 use mathlib.Core.List.{List, [], _∷_}
@@ -22,7 +23,7 @@ use Rattle.rules.specs.Stages.{lastRun, wayOf}
 use Rattle.rules.specs.Waiting.{Lists}
 use Rattle.rules.specs.Within.{Accepted, Away, BlockWithin, CoreWithin, EntriesWithin, latest, ModeWithin, mostSpent, Reached, at-origin, by-start, RowWithin, StateWithin, WayWithin}
 use Rattle.rules.proofs.Blocks.{dominant-within, gate-set, getD-zeros, oldest-own, way-within}
-use Rattle.rules.proofs.Lists.{listed-few, lists-join, lists-rest, upTo-away, upTo-keep, upTo-lists}
+use Rattle.rules.proofs.Lists.{listed-few, lists-head, lists-join, lists-rest, upTo-away, upTo-keep, upTo-lists}
 use Rattle.rules.proofs.Waiting.{arrived-entries, called-within, entries-joined, entries-later}
 
 -- what holds of a start that is made where a test says so
@@ -114,7 +115,7 @@ module _ (L : Load) (ok : Accepted L) where
           way = w .core .way;
         };
         mode = omega arith;
-        away = (lists .below .0, lists .apart .0);
+        away = lists-head lists;
       }
 
   pub readied-within : (k : ℕ) (c : Core) → CoreWithin L k c → ModeWithin k Idle c → StateWithin L k (readied L c)
@@ -228,11 +229,11 @@ module _ (L : Load) (ok : Accepted L) where
   reached-within at-origin = origin-within
   reached-within (by-start {k} {s} {q} r e) = step-within k s q (reached-within r) e .0
 
-  -- In no state of the plan of an accepted load are more flows listed than the load has: not after a start, nor when its turn is tested,
-  -- nor when the next flow is taken.
   abbrev FewListed : State → Type 0
   FewListed s = length (s .core .line .wait) ≤ L .counts .flows
 
+  -- In no state of the plan of an accepted load are more flows listed than the load has: not after a start, nor when the turn is tested,
+  -- nor when the next flow is taken.
   pub reached-few : {k : ℕ} {s : State} → Reached L k s → FewListed s × FewListed (tested L (s .mode) (s .core)) × FewListed (settled L s)
   reached-few {k} {s} r =
       let w = reached-within r in

@@ -18,6 +18,7 @@ use Rattle.rules.specs.Account.{called, noted, opened, used}
 use Rattle.rules.specs.Load.{Load}
 use Rattle.rules.specs.Plan.{Core, State, onward, readied, rejoined, settled, state, taken, tested, waits, withLine, withRound, woken}
 use Rattle.rules.specs.Waiting.{listed}
+use Rattle.rules.specs.Within.{Away}
 use Rattle.rules.proofs.Balances.{Listed}
 use Rattle.rules.proofs.Unstarted.{Open, Whole, open-waits}
 use Rattle.rules.proofs.Whole.{turn-leaves as leaves-whole, turn-rejoins as rejoins-whole}
@@ -91,7 +92,7 @@ module _ (L : Load) (k f : ℕ) where
   SettlesTo c g x s = Settles (OpenAt c) g x (account f (s .mode) (s .core))
 
   -- a turn ends: no block of the flow is left to wait, or it joins the tail
-  module _ (t : Turn) (c : Core) (w : Whole L k (InTurn t) c) (s : Listed c) where
+  module _ (t : Turn) (c : Core) (s : Listed c) where
     turn-leaves : waits L c (t .flow) ≡ false → SettlesTo c 0 (account f (InTurn t) c) (state Idle c)
     unfolding Settles account state
     turn-leaves ends =
@@ -99,16 +100,16 @@ module _ (L : Load) (k f : ℕ) where
         (λ own. rw own (λ o. absurd (true≢false (sym (open-waits L c (t .flow) (rw (eqb-true (t .flow) f own) o)) ∙ ends))))
         (λ other. rw other (λ _. (omega arith, refl)))
 
-    turn-rejoins : leb (t .spent) (t .allowance) ≡ false → SettlesTo c 0 (account f (InTurn t) c) (state Idle (rejoined c (t .flow) (t .spent - t .allowance)))
-    unfolding Settles account state
-    turn-rejoins past =
+    turn-rejoins : Away (L .counts .flows) (InTurn t) (c .line .wait) → leb (t .spent) (t .allowance) ≡ false → SettlesTo c 0 (account f (InTurn t) c) (state Idle (rejoined c (t .flow) (t .spent - t .allowance)))
+    unfolding Away Settles account state
+    turn-rejoins away past =
         let long = split-length (c .round .left) (c .round .credit) (c .round .most) (c .line .wait) s in
         let over = leb-false (t .spent) (t .allowance) past in
         let excess = t .spent - t .allowance in
         cases (eqb (t .flow) f)
         (λ own.
         let is = eqb-true (t .flow) f own in
-        let out : listed f (c .line .wait) ≡ false = rw (← is) (w .1 .apart .0) in
+        let out : listed f (c .line .wait) ≡ false = rw (← is) (away .1) in
         rw (own, rejoined-own f (t .flow) excess c long is out) (λ _. (refl, omega arith)))
         (λ other. rw (other, rejoined-other f (t .flow) excess c long (eqb-false (t .flow) f other)) (λ _. (omega arith, refl)))
 
@@ -141,24 +142,24 @@ module _ (L : Load) (k f : ℕ) where
   abbrev OnwardTo : Core → Account → State → Type 0
   OnwardTo c x s = SettlesTo c (allowed f (gainAt (s .mode) (s .core))) x (onward L (s .mode) (s .core))
 
-  tested-settles : (m : Mode) (c : Core) → Whole L k m c → Listed c → OnwardTo c (account f m c) (tested L m c)
+  tested-settles : (m : Mode) (c : Core) → Whole L k m c → Away (L .counts .flows) m (c .line .wait) → Listed c → OnwardTo c (account f m c) (tested L m c)
   unfolding account gainAt onward rejoined state tested withLine withRound
-  tested-settles Idle c w s = readied-settles c w
-  tested-settles (Holds h) c w s = rw (allowed-none f) (same (OpenAt c) (account f (Holds h) c))
-  tested-settles (InTurn t) c w s =
+  tested-settles Idle c w away s = readied-settles c w
+  tested-settles (Holds h) c w away s = rw (allowed-none f) (same (OpenAt c) (account f (Holds h) c))
+  tested-settles (InTurn t) c w away s =
       let x = account f (InTurn t) c in
       let over = t .spent - t .allowance in
       by-test (OnwardTo c x) (waits L c (t .flow))
       (λ waiting.
       by-test (OnwardTo c x) (leb (t .spent) (t .allowance)) (λ _. rw (allowed-none f) (same (OpenAt c) x))
-      (λ past. then-opens (OpenAt c) _ x _ _ (turn-rejoins t c w s past) (readied-settles (rejoined c (t .flow) over) (rejoins-whole L k t c w over waiting))))
-      (λ ends. then-opens (OpenAt c) _ x _ _ (turn-leaves t c w s ends) (readied-settles c (leaves-whole L k t c w ends)))
+      (λ past. then-opens (OpenAt c) _ x _ _ (turn-rejoins t c s away past) (readied-settles (rejoined c (t .flow) over) (rejoins-whole L k t c w over waiting))))
+      (λ ends. then-opens (OpenAt c) _ x _ _ (turn-leaves t c s ends) (readied-settles c (leaves-whole L k t c w ends)))
 
 -- what is given to each flow that waits
 abbrev pub gain : Load → State → ℕ
 gain L s = let s′ = tested L (s .mode) (s .core) in gainAt (s′ .mode) (s′ .core)
 
-pub settled-settles : (L : Load) (k f : ℕ) (s : State) → Whole L k (s .mode) (s .core) → Listed (s .core)
+pub settled-settles : (L : Load) (k f : ℕ) (s : State) → Whole L k (s .mode) (s .core) → Away (L .counts .flows) (s .mode) (s .core .line .wait) → Listed (s .core)
     → Settles (Open L (s .core .from) (s .core .line .next) f) (allowed f (gain L s)) (account f (s .mode) (s .core)) (account f (settled L s .mode) (settled L s .core))
 unfolding settled
-settled-settles L k f s w l = tested-settles L k f (s .mode) (s .core) w l
+settled-settles L k f s w away l = tested-settles L k f (s .mode) (s .core) w away l

@@ -52,7 +52,7 @@ unfolding listed
 listed-join g e [] = or-false (eqb (e .flow) g)
 listed-join g e (x ∷ w) = rw (listed-join g e w) (sym (or-assoc (eqb (x .flow) g) (listed g w) (eqb (e .flow) g)))
 
-pub apart-join : (e : Entry) (w : List Entry) → listed (e .flow) w ≡ false → Apart w → Apart (w ++ (e ∷ []))
+apart-join : (e : Entry) (w : List Entry) → listed (e .flow) w ≡ false → Apart w → Apart (w ++ (e ∷ []))
 unfolding listed
 apart-join e [] out a = (refl, tt)
 apart-join e (x ∷ w) out a =
@@ -70,6 +70,9 @@ module _ {n : ℕ} {w : List Entry} where
   lists-join e l h out = record { apart = apart-join e w out (l .apart); below = below-join e w h (l .below) }
 
   -- the head is taken
+  pub lists-head : {e : Entry} → Lists n (e ∷ w) → (e .flow < n) × (listed (e .flow) w ≡ false)
+  lists-head l = (l .below .0, l .apart .0)
+
   pub lists-rest : {e : Entry} → Lists n (e ∷ w) → Lists n w
   lists-rest l = record { apart = l .apart .1; below = l .below .1 }
 

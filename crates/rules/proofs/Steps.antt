@@ -15,7 +15,9 @@ use Rattle.rules.specs.declared.mode.Mode.the-variants.{Idle, Holds, InT
 use Rattle.rules.specs.declared.mode.Mode.{Mode}
 use Rattle.rules.specs.Load.{Load, blockAt}
 use Rattle.rules.specs.Plan.{Core, Started, State, onward, origin, readied, rejoined, rowsFrom, run, settled, state, step, taken, tested, turnOf, upTo, waits, withLine, withRound, woken}
+use Rattle.rules.specs.Within.{StateWithin}
 use Rattle.rules.proofs.Balances.{Balanced, HeldBalanced, Listed, Split, origin-balanced, settled-balanced, step-balanced}
+use Rattle.rules.proofs.Bounds.{origin-within, step-within}
 use Rattle.rules.proofs.Unstarted.{Open, Whole}
 use Rattle.rules.proofs.Whole.{origin-whole, step-whole}
 use Rattle.rules.specs.Fairness.{servedBy}
@@ -95,6 +97,7 @@ module _ (L : Load) (M : ℕ) (ok : Sound L M) where
 
   -- what holds between two starts, with k blocks started
   pub record Good (k : ℕ) (s : State) : Type 0 where
+    pub within : StateWithin L k s
     pub whole : Whole L k (s .mode) (s .core)
     pub balanced : Balanced s
     pub kept : KeptAt L M M s
@@ -103,7 +106,7 @@ module _ (L : Load) (M : ℕ) (ok : Sound L M) where
   good-sound f k s g = account-sound f M (s .mode) (s .core) (omega arith) (g .kept) (g .balanced .0) (g .balanced .1)
 
   pub origin-good : Good 0 (origin L)
-  origin-good = record { whole = origin-whole L; balanced = origin-balanced L; kept = origin-kept L M }
+  origin-good = record { within = origin-within L (ok .accepted); whole = origin-whole L; balanced = origin-balanced L; kept = origin-kept L M }
 
   -- a flow's account by a step, with the one between the decision and the start
   pub record Moves (f t₁ t₂ : ℕ) (s : State) (q : Started) : Type 0 where
@@ -129,14 +132,19 @@ module _ (L : Load) (M : ℕ) (ok : Sound L M) where
       let n = started-next L M ok (s′ .mode) (s′ .core) q v (b .0) (b .1) e in
       let same = settled-same L M s (g .kept) in
       record {
-        good = record { whole = step-whole L (ok .accepted) k s q more (g .whole) e; balanced = step-balanced L s q (g .balanced) e; kept = n .kept };
+        good = record {
+          within = step-within L (ok .accepted) k s q (g .within) e .0;
+          whole = step-whole L (ok .accepted) k s q more (g .whole) (g .within) e;
+          balanced = step-balanced L s q (g .balanced) e;
+          kept = n .kept;
+        };
         later = omega (arith, same .clock, n .later);
         made = rw (same .from, same .way) at (n .made);
         turned = rw (same .turns, same .gate) at (n .turned);
         moves = λ f t₁ t₂. record {
           between = account f (s′ .mode) (s′ .core);
           sound = account-sound f 0 (s′ .mode) (s′ .core) (omega arith) v (b .0) (b .1);
-          settles = settled-settles L k f s (g .whole) (g .balanced .0);
+          settles = settled-settles L k f s (g .whole) (g .within .away) (g .balanced .0);
           starts = rw (same .gate) at (n .starts f t₁ t₂);
         };
       }

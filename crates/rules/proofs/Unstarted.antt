@@ -1,6 +1,6 @@
 -- What holds of the blocks that are started and of those that aren't, after so many starts, and that arrivals keep it. Of the
--- blocks that have arrived, each that isn't started is of a flow that waits, is held or is in its turn; no flow is there twice;
--- and each flow that waits or is held has such a block.
+-- blocks that have arrived, each that isn't started is of a flow that waits, is held or is in its turn; and each flow that waits or
+-- is held has such a block. (`Bounds` shows that no flow is there twice.)
 use Prim.Native.Nat.{ℕ, zero, suc, _+_, _-_, _≤_, _<_, min}
 use mathlib.Core.Bool.{true, false, _||_, or-true}
 use mathlib.Core.List.{List, [], _∷_, _++_, append-assoc}
@@ -17,9 +17,9 @@ use Rattle.rules.specs.declared.mode.Mode.the-variants.{Idle, Holds, InT
 use Rattle.rules.specs.EachBlock.{sumBelow}
 use Rattle.rules.specs.Load.{Load, blockAt, seek}
 use Rattle.rules.specs.Plan.{Core, Line, arrivals, arrived, busy, oldest, upTo, waits}
-use Rattle.rules.specs.Waiting.{Apart, listed}
+use Rattle.rules.specs.Waiting.{listed}
 use Rattle.rules.proofs.Blocks.{getD-zeros, oldest-own}
-use Rattle.rules.proofs.Lists.{apart-join, listed-join}
+use Rattle.rules.proofs.Lists.{arrivals-keep, listed-join}
 use Rattle.rules.proofs.Sums.{sum-more}
 
 -- the flow that is held or in its turn, and the flow that is held
@@ -135,7 +135,6 @@ module _ (L : Load) where
   -- `all` are the flows that wait, are held or are in their turn, `owed` those of them that must have a block
   pub record Queue (all owed : List Entry) (from : List ℕ) (next : ℕ) : Type 0 where
     pub placed : (i : ℕ) → i < next → getD from (flowAt i) 0 ≤ i → listed (flowAt i) all ≡ true
-    pub apart : Apart all
     pub owes : (f : ℕ) → listed f owed ≡ true → Open from next f
 
   abbrev LineWhole : ℕ → Mode → List ℕ → Line → Type 0
@@ -157,22 +156,20 @@ module _ (L : Load) where
 
     -- enough that its flow is now listed, those listed before still are, and those owed have a block
     grown : (all owed : List Entry) → listed new all ≡ true → ((g : ℕ) → listed g (front m ++ l .wait) ≡ true → listed g all ≡ true)
-        → Apart all → ((g : ℕ) → listed g owed ≡ true → Open from (l .next + 1) g) → Queue all owed from (l .next + 1)
-    grown all owed here kept apart owes = record {
+        → ((g : ℕ) → listed g owed ≡ true → Open from (l .next + 1) g) → Queue all owed from (l .next + 1)
+    grown all owed here kept owes = record {
       placed =
           λ i h left.
           cases (ltb i (l .next))
           (λ e. kept (flowAt i) (w .1 .placed i (ltb-true i (l .next) e) left))
           (λ e. let last : i ≡ l .next = omega (arith, ltb-false i (l .next) e) in rw last here);
-      apart = apart;
       owes = owes;
     }
 
     -- its flow joins the tail
-    joins : listed new (front m ++ l .wait) ≡ false → Queue (front m ++ l .wait ++ (joining ∷ [])) (held m ++ l .wait ++ (joining ∷ [])) from (l .next + 1)
-    joins out =
-        grown _ _ (rw (listed-join, eq-eqb new new refl) (or-true (listed new (front m ++ l .wait)))) (λ g h. rw (listed-join, h) refl)
-        (apart-join joining (front m ++ l .wait) out (w .1 .apart)) owes
+    joins : Queue (front m ++ l .wait ++ (joining ∷ [])) (held m ++ l .wait ++ (joining ∷ [])) from (l .next + 1)
+    joins =
+        grown _ _ (rw (listed-join, eq-eqb new new refl) (or-true (listed new (front m ++ l .wait)))) (λ g h. rw (listed-join, h) refl) owes
       where
         owes : (g : ℕ) → listed g (held m ++ l .wait ++ (joining ∷ [])) ≡ true → Open from (l .next + 1) g
         owes g h =
@@ -184,20 +181,16 @@ module _ (L : Load) where
     arrive = (
       record { long = w .0 .long; next-within = omega arith; passed = λ g. omega (arith, w .0 .passed g); count = w .0 .count },
       by-test (λ (v : List Entry). Queue (front m ++ v) (held m ++ v) from (l .next + 1)) (busy m new || listed new (l .wait))
-          (λ e. grown _ _ (front-listed m new (l .wait) ∙ e) (λ g h. h) (w .1 .apart) owes-later)
-          (λ e. rw (← (append-assoc (front m) (l .wait) (joining ∷ [])), ← (append-assoc (held m) (l .wait) (joining ∷ []))) (joins (front-listed m new (l .wait) ∙ e))),
+          (λ e. grown _ _ (front-listed m new (l .wait) ∙ e) (λ g h. h) owes-later)
+          (λ _. rw (← (append-assoc (front m) (l .wait) (joining ∷ [])), ← (append-assoc (held m) (l .wait) (joining ∷ []))) joins),
     )
 
   module _ (k : ℕ) (m : Mode) (from : List ℕ) (t : ℕ) where
     arrivals-whole : (n : ℕ) (l : Line) → l .next + n ≤ L .counts .blocks → LineWhole k m from l
         → LineWhole k m from (arrivals L n m t l) × (l .next ≤ arrivals L n m t l .next)
-    unfolding arrivals
-    arrivals-whole zero l h w = (w, omega arith)
-    arrivals-whole (suc n) l h w =
-        let more = arrivals-whole n _ (omega arith) (arrive k m from l w (omega arith)) in
-        by-test (λ (l′ : Line). LineWhole k m from l′ × (l .next ≤ l′ .next)) (leb (blockAt (L .table) (l .next) .arrival) t)
-        (λ _. (more .0, omega (arith, more .1)))
-        (λ _. (w, omega arith))
+    arrivals-whole n l h w =
+        arrivals-keep L m t (λ l′. LineWhole k m from l′ × (l .next ≤ l′ .next)) (λ l′ more p. (arrive k m from l′ (p .0) more, omega (arith, p .1))) n l h
+        (w, omega arith)
 
     -- a block arrives by its own tick
     pub arrivals-first : (n : ℕ) (l : Line) → l .next + n ≤ L .counts .blocks → LineWhole k m from l → 0 < n → t ≡ blockAt (L .table) (l .next) .arrival

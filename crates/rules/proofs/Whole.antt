@@ -25,10 +25,11 @@ use Rattle.rules.specs.Load.{Load, blockAt, loadOf}
 use Rattle.rules.specs.Plan.{Core, Started, State, after, begins, begun, first, further, heldUntil, oldest, onward, origin, plan, readied, rejoined}
 use Rattle.rules.specs.Plan.{rowOf, rowsFrom, run, settled, spent, started, state, step, taken, tested, turnOf, upTo, waits, where-waits, withLine, withRound, woken}
 use Rattle.rules.specs.Waiting.{listed}
-use Rattle.rules.specs.Within.{Accepted}
+use Rattle.rules.specs.Within.{Accepted, Away, StateWithin}
 use Rattle.rules.proofs.Accepting.{accepted}
 use Rattle.rules.proofs.Blocks.{getD-zeros, oldest-own}
-use Rattle.rules.proofs.Lists.{apart-join, listed-join}
+use Rattle.rules.proofs.Bounds.{origin-within, settled-within, step-within}
+use Rattle.rules.proofs.Lists.{listed-join, upTo-away}
 use Rattle.rules.proofs.Unstarted.{Marks, Queue, Whole, arrivals-first, flowAt, front, oldest-from, oldest-least, open-waits, set-cases, started-all, started-more, started-none, upTo-whole, waits-open}
 
 module _ (L : Load) where
@@ -55,7 +56,6 @@ module _ (L : Load) where
             let own = eqb-true (t .flow) (flowAt L i) e in
             absurd (true≢false (sym (open-waits L c (t .flow) (record { place = i; arrived = h; own = sym own; left = rw own left })) ∙ ends)))
             (λ e. e);
-        apart = w .1 .apart .1;
         owes = w .1 .owes;
       },
     )
@@ -66,7 +66,6 @@ module _ (L : Load) where
       w .0,
       record {
         placed = λ i h left. rw listed-join (rw or-comm at (w .1 .placed i h left));
-        apart = apart-join _ (c .line .wait) (w .1 .apart .0) (w .1 .apart .1);
         owes =
             λ f e.
             either (listed f (c .line .wait)) (eqb (t .flow) f) (rw listed-join at e) (w .1 .owes f)
@@ -74,9 +73,18 @@ module _ (L : Load) where
       },
     )
 
+  -- after the decisions a flow is held, or the turn goes on
+  abbrev Goes : Mode → Core → Type 0
+  Goes Idle c = ⊥
+  Goes (Holds h) c = Unit {0}
+  Goes (InTurn t) c = waits L c (t .flow) ≡ true
+
+  abbrev Ready : ℕ → State → Type 0
+  Ready k s = Whole L k (s .mode) (s .core) × Goes (s .mode) (s .core)
+
   module _ (ok : Accepted L) (k : ℕ) where
     -- the oldest block of the flow in its turn starts
-    module _ (t : Turn) (c : Core) (w : Whole L k (InTurn t) c) (waiting : waits L c (t .flow) ≡ true) where
+    module _ (t : Turn) (c : Core) (w : Whole L k (InTurn t) c) (away : Away (L .counts .flows) (InTurn t) (c .line .wait)) (waiting : waits L c (t .flow) ≡ true) where
       abbrev block : ℕ
       block = oldest L c (t .flow)
 
@@ -87,7 +95,8 @@ module _ (L : Load) where
       left = oldest-from L c (t .flow)
 
       room : t .flow < length (c .from)
-      room = omega (arith, ok .flows, ok .each block (omega (arith, found .0, w .0 .next-within)) .flow, found .1, w .0 .long)
+      unfolding Away
+      room = omega (arith, ok .flows, away .0, w .0 .long)
 
       abbrev moved : List ℕ
       moved = set (c .from) (t .flow) (block + 1)
@@ -111,13 +120,13 @@ module _ (L : Load) where
 
       -- a flow that waits is another, so it still has its block
       moved-queue : Queue L (front (InTurn t) ++ c .line .wait) (c .line .wait) moved (c .line .next)
+      unfolding Away
       moved-queue = record {
         placed = λ i h past. w .1 .placed i h (omega (arith, past, later (flowAt L i)));
-        apart = w .1 .apart;
         owes =
             λ f e.
             let o = w .1 .owes f e in
-            let other : t .flow ≡ f → ⊥ = λ same. true≢false (sym e ∙ rw (← same) (w .1 .apart .0)) in
+            let other : t .flow ≡ f → ⊥ = λ same. true≢false (sym e ∙ rw (← same) (away .1)) in
             let kept = set-cases (λ (v : ℕ). v ≤ o .place) (c .from) (t .flow) f (block + 1) room (λ same. absurd (other same)) (o .left) in
             record { place = o .place; arrived = o .arrived; own = o .own; left = kept };
       }
@@ -126,32 +135,38 @@ module _ (L : Load) where
       unfolding after spent state
       after-whole gate r e = upTo-whole L (k + 1) _ _ _ (rw e (moved-marks, moved-queue))
 
-    next-in-turn : (t : Turn) (c : Core) → Whole L k (InTurn t) c → waits L c (t .flow) ≡ true → StartsAt k (state (InTurn t) c)
+    next-in-turn : (t : Turn) (c : Core) → Whole L k (InTurn t) c → Away (L .counts .flows) (InTurn t) (c .line .wait) → waits L c (t .flow) ≡ true → StartsAt k (state (InTurn t) c)
     unfolding further rowOf started state where-waits
-    next-in-turn t c w waiting = record { start = further L c t; is = rw waiting refl; whole = after-whole t c w waiting (c .gate) _ refl }
+    next-in-turn t c w away waiting = record { start = further L c t; is = rw waiting refl; whole = after-whole t c w away waiting (c .gate) _ refl }
 
     -- a held flow's turn begins
     turn-begins : (h : HeldFlow) (c′ c : Core) → Whole L k (Holds h) c → Whole L k (InTurn (turnOf h c′)) c
     unfolding listed turnOf
-    turn-begins h c′ c w = (w .0, record { placed = w .1 .placed; apart = w .1 .apart; owes = λ f e. w .1 .owes f (rw e (or-true (eqb (h .flow) f))) })
+    turn-begins h c′ c w = (w .0, record { placed = w .1 .placed; owes = λ f e. w .1 .owes f (rw e (or-true (eqb (h .flow) f))) })
 
-    next-held : (h : HeldFlow) (c : Core) → Whole L k (Holds h) c → StartsAt k (state (Holds h) c)
-    unfolding begins begun first listed rowOf started state turnOf upTo where-waits
-    next-held h c w =
+    next-held : (h : HeldFlow) (c : Core) → Whole L k (Holds h) c → Away (L .counts .flows) (Holds h) (c .line .wait) → StartsAt k (state (Holds h) c)
+    unfolding Away begins begun first listed rowOf started state turnOf upTo where-waits
+    next-held h c w away =
         let c′ = begun (upTo L (Holds h) (heldUntil h c) c) in
         let v = upTo-whole L k (Holds h) (heldUntil h c) c w in
         let waiting : waits L c′ (h .flow) ≡ true = open-waits L c′ (h .flow) (v .1 .owes (h .flow) (rw (eq-eqb (h .flow) (h .flow) refl) refl)) in
         record {
           start = first L c′ (turnOf h c) (heldUntil h c - h .ready);
           is = rw waiting refl;
-          whole = after-whole (turnOf h c) c′ (turn-begins h c c′ v) waiting _ _ refl;
+          whole = after-whole (turnOf h c) c′ (turn-begins h c c′ v) (upTo-away L ok (Holds h) (heldUntil h c) c (w .0 .next-within) away) waiting _ _ refl;
         }
 
+    next-ready : (m : Mode) (c : Core) → Whole L k m c → Goes m c → Away (L .counts .flows) m (c .line .wait) → StartsAt k (state m c)
+    unfolding state
+    next-ready Idle c w goes away = absurd goes
+    next-ready (Holds h) c w goes away = next-held h c w away
+    next-ready (InTurn t) c w goes away = next-in-turn t c w away goes
+
     -- some flow is listed: the head is taken
-    next-taken : (c : Core) (v : List Entry) (f : ℕ) → Marks L k (c .from) (c .line .next) → Queue L v v (c .from) (c .line .next) → listed f v ≡ true → StartsAt k (taken c v)
+    ready-taken : (c : Core) (v : List Entry) (f : ℕ) → Marks L k (c .from) (c .line .next) → Queue L v v (c .from) (c .line .next) → listed f v ≡ true → Ready k (taken c v)
     unfolding listed state taken withLine withRound
-    next-taken c [] f marks q e = absurd (true≢false (sym e))
-    next-taken c (x ∷ v) f marks q e = next-held _ _ (marks, record { placed = q .placed; apart = q .apart; owes = q .owes })
+    ready-taken c [] f marks q e = absurd (true≢false (sym e))
+    ready-taken c (x ∷ v) f marks q e = ((marks, record { placed = q .placed; owes = q .owes }), tt)
 
     -- with no flow waiting and no block to come, all blocks are started
     none-left : (c : Core) → c .line .wait ≡ [] → L .counts .blocks ≤ c .line .next → Whole L k Idle c → L .counts .blocks ≡ k
@@ -164,57 +179,61 @@ module _ (L : Load) where
 
     module _ (more : k < L .counts .blocks) where
       -- between turns some flow waits, or one joins with the next block
-      next-readied : (c : Core) → Whole L k Idle c → StartsAt k (readied L c)
+      ready-readied : (c : Core) → Whole L k Idle c → Ready k (readied L c)
       unfolding listed readied upTo woken
-      next-readied c w = go (c .line .wait) refl where
-        go : (v : List Entry) → c .line .wait ≡ v → StartsAt k (taken (woken L c v) (woken L c v .line .wait))
-        go (x ∷ v) e = next-taken c (c .line .wait) (x .flow) (w .0) (w .1) (rw (e, eq-eqb (x .flow) (x .flow) refl) refl)
+      ready-readied c w = go (c .line .wait) refl where
+        go : (v : List Entry) → c .line .wait ≡ v → Ready k (taken (woken L c v) (woken L c v .line .wait))
+        go (x ∷ v) e = ready-taken c (c .line .wait) (x .flow) (w .0) (w .1) (rw (e, eq-eqb (x .flow) (x .flow) refl) refl)
         go [] e =
             let at = c .line .next in
             let t = blockAt (L .table) at .arrival in
             let c₁ = upTo L Idle t c in
             let v = upTo-whole L k Idle t c w in
-            by-test (λ (c′ : Core). StartsAt k (taken c′ (c′ .line .wait))) (ltb at (L .counts .blocks))
+            by-test (λ (c′ : Core). Ready k (taken c′ (c′ .line .wait))) (ltb at (L .counts .blocks))
             (λ q.
             let due = ltb-true at (L .counts .blocks) q in
             let joins = arrivals-first L k Idle (c .from) t (L .counts .blocks - at) (c .line) (omega (arith, due)) w (omega (arith, due)) refl in
-            next-taken c₁ (c₁ .line .wait) (flowAt L at) (v .0) (v .1) (v .1 .placed at joins (w .0 .passed (flowAt L at))))
+            ready-taken c₁ (c₁ .line .wait) (flowAt L at) (v .0) (v .1) (v .1 .placed at joins (w .0 .passed (flowAt L at))))
             (λ q. absurd (omega (arith, none-left c e (ltb-false at (L .counts .blocks) q) w, more)))
 
-      next-tested : (m : Mode) (c : Core) → Whole L k m c → let s = tested L m c in StartsAt k (onward L (s .mode) (s .core))
+      ready-tested : (m : Mode) (c : Core) → Whole L k m c → let s = tested L m c in Ready k (onward L (s .mode) (s .core))
       unfolding onward state tested
-      next-tested Idle c w = next-readied c w
-      next-tested (Holds h) c w = next-held h c w
-      next-tested (InTurn t) c w =
-          by-test (λ (s : State). StartsAt k (onward L (s .mode) (s .core))) (waits L c (t .flow))
+      ready-tested Idle c w = ready-readied c w
+      ready-tested (Holds h) c w = (w, tt)
+      ready-tested (InTurn t) c w =
+          by-test (λ (s : State). Ready k (onward L (s .mode) (s .core))) (waits L c (t .flow))
           (λ waiting.
-          by-test (λ (s : State). StartsAt k (onward L (s .mode) (s .core))) (leb (t .spent) (t .allowance))
-          (λ _. next-in-turn t c w waiting)
-          (λ _. next-readied (rejoined c (t .flow) (t .spent - t .allowance)) (turn-rejoins k t c w (t .spent - t .allowance) waiting)))
-          (λ ends. next-readied c (turn-leaves k t c w ends))
+          by-test (λ (s : State). Ready k (onward L (s .mode) (s .core))) (leb (t .spent) (t .allowance))
+          (λ _. (w, waiting))
+          (λ _. ready-readied (rejoined c (t .flow) (t .spent - t .allowance)) (turn-rejoins k t c w (t .spent - t .allowance) waiting)))
+          (λ ends. ready-readied c (turn-leaves k t c w ends))
+
+      next-start : (s : State) → Whole L k (s .mode) (s .core) → StateWithin L k s → StartsAt k (settled L s)
+      unfolding settled state
+      next-start s w v = let r = ready-tested (s .mode) (s .core) w in next-ready _ _ (r .0) (r .1) (settled-within L ok k s v .away)
 
   -- after a start one block more is started
-  pub step-whole : Accepted L → (k : ℕ) (s : State) (q : Started) → k < L .counts .blocks → Whole L k (s .mode) (s .core) → step L s ≡ some q
+  pub step-whole : Accepted L → (k : ℕ) (s : State) (q : Started) → k < L .counts .blocks → Whole L k (s .mode) (s .core) → StateWithin L k s → step L s ≡ some q
       → Whole L (k + 1) (q .then .mode) (q .then .core)
-  unfolding settled step
-  step-whole ok k s q more w e =
-      let made = next-tested ok k more (s .mode) (s .core) w in
+  unfolding step
+  step-whole ok k s q more w v e =
+      let made = next-start ok k more s w v in
       let same : made .start ≡ q = cc in
       rw (← same) (made .whole)
 
   -- from a state with k blocks started
-  run-whole : Accepted L → (n k : ℕ) (s : State) → Whole L k (s .mode) (s .core) → k + n ≤ L .counts .blocks → length (run L n s) ≡ n
-  unfolding run rowsFrom settled step
-  run-whole ok zero k s w h = refl
-  run-whole ok (suc n) k s w h =
-      let q = next-tested ok k (omega arith) (s .mode) (s .core) w in
-      rw (q .is) (ap suc (run-whole ok n (k + 1) (q .start .then) (q .whole) (omega arith)))
+  run-whole : Accepted L → (n k : ℕ) (s : State) → Whole L k (s .mode) (s .core) → StateWithin L k s → k + n ≤ L .counts .blocks → length (run L n s) ≡ n
+  unfolding run rowsFrom step
+  run-whole ok zero k s w v h = refl
+  run-whole ok (suc n) k s w v h =
+      let q = next-start ok k (omega arith) s w v in
+      rw (q .is) (ap suc (run-whole ok n (k + 1) (q .start .then) (q .whole) (step-within L ok k s (q .start) v (q .is) .0) (omega arith)))
 
   pub origin-whole : Whole L 0 (origin L .mode) (origin L .core)
   unfolding listed origin state
   origin-whole = upTo-whole L 0 Idle 0 _ (
     record { long = refl; next-within = omega arith; passed = λ f. omega (arith, getD-zeros 64 f); count = started-none L (L .counts .blocks) },
-    record { placed = λ i h left. absurd (omega arith); apart = tt; owes = λ f e. absurd (true≢false (sym e)) },
+    record { placed = λ i h left. absurd (omega arith); owes = λ f e. absurd (true≢false (sym e)) },
   )
 
 summary-blocks : (stages : ℕ) (s : Summary) (rs : List Row) → summary stages s rs .blocks ≡ s .blocks + length rs
@@ -227,7 +246,8 @@ module _ (c : Counts) (n : ℕ) (table : List ℕ) (flowRecords rowWords : ℕ) 
   unfolding plan
   plan-length =
       let L = loadOf c table in
-      run-whole L (accepted c n table flowRecords rowWords e .0) (min n (c .blocks)) 0 (origin L) (origin-whole L) (omega arith)
+      let ok = accepted c n table flowRecords rowWords e .0 in
+      run-whole L ok (min n (c .blocks)) 0 (origin L) (origin-whole L) (origin-within L ok) (omega arith)
 
   -- the answer counts as many
   pub plan-blocks : summary (c .stages) none (plan (loadOf c table) n) .blocks ≡ min n (c .blocks)
