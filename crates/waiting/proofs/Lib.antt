@@ -1,0 +1,3 @@
+pub mod Heads
+pub mod Moving
+pub mod Places
