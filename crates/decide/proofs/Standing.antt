@@ -43,6 +43,9 @@ module _ (L : Load) (ok : Accepted L) (c : Core) (s : Stands L (c .line .next) (
     number = refl;
   }
 
+  pub upTo-stands : (m : Mode) (t : ℕ) → Stands L (upTo L m t c .line .next) (upTo L m t c .line .wait)
+  upTo-stands m t = upTo-keeps m t .stands
+
   kept : Keeps L (c .round) c
   kept = record { stands = s; number = refl }
 
@@ -61,21 +64,15 @@ module _ (L : Load) (ok : Accepted L) (c : Core) (s : Stands L (c .line .next) (
       (λ _. record { stands = record { arrived = s .arrived; lists = lists-join _ (s .lists) (a .0) (a .1) }; number = refl }))
       (λ _. kept)
 
--- the same of the code's
-module _ (L : Load) (ok : Accepted L) (c : code.Core) (list : List ℕ) where
-  module _ (s : Stands L (c .next) (entries list)) (c′ : code.Core) (list′ : List ℕ) where
-    pub upTo-stands : (m : Mode) (t : ℕ) → CoreBecomes (upTo L m t) c list c′ list′ → Stands L (c′ .next) (entries list′)
-    upTo-stands m t e = rw (← (e [] [])) at (upTo-keeps L ok (coreOf c list [] []) s m t) .stands
+-- the same of the code's: a flow is taken where the planner has woken, and where a turn has been tested
+module _ (L : Load) (ok : Accepted L) (c : code.Core) (list : List ℕ) (k : Takes L c (entries list)) where
+  pub woken-takes : (c′ : code.Core) (list′ : List ℕ) → CoreBecomes (λ (x : Core). woken L x []) c list c′ list′ → Takes L c′ (entries list′)
+  woken-takes c′ list′ e =
+      let w = rw (← (e [] [])) at (woken-keeps L ok (coreOf c list [] []) (k .stands)) in
+      record { stands = w .stands; number = rw (w .number) (k .number) }
 
-  -- a flow is taken where the planner has woken, and where a turn has been tested
-  module _ (k : Takes L c (entries list)) where
-    pub woken-takes : (c′ : code.Core) (list′ : List ℕ) → CoreBecomes (λ (x : Core). woken L x []) c list c′ list′ → Takes L c′ (entries list′)
-    woken-takes c′ list′ e =
-        let w = rw (← (e [] [])) at (woken-keeps L ok (coreOf c list [] []) (k .stands)) in
-        record { stands = w .stands; number = rw (w .number) (k .number) }
-
-    pub tested-takes : (m : Mode) (from : List ℕ) (p : Planner) (list′ : List ℕ) → Away (L .counts .flows) m (entries list)
-        → BecomesFrom from (tested L m) c list p list′ → Takes L (p .core) (entries list′)
-    tested-takes m from p list′ a e =
-        let w = rw (← (e [])) at (tested-keeps L ok (coreOf c list from []) (k .stands) m a) in
-        record { stands = w .stands; number = rw (w .number) (k .number) }
+  pub tested-takes : (m : Mode) (from : List ℕ) (p : Planner) (list′ : List ℕ) → Away (L .counts .flows) m (entries list)
+      → BecomesFrom from (tested L m) c list p list′ → Takes L (p .core) (entries list′)
+  tested-takes m from p list′ a e =
+      let w = rw (← (e [])) at (tested-keeps L ok (coreOf c list from []) (k .stands) m a) in
+      record { stands = w .stands; number = rw (w .number) (k .number) }

@@ -2,7 +2,7 @@
 use Prim.Native.Nat.{ℕ, _≤_, _<_}
 use mathlib.Core.List.{List, []}
 use mathlib.Core.Option.{none}
-use mathlib.Core.Path.{_≡_, refl, ap}
+use mathlib.Core.Path.{_≡_, refl, sym, ap, subst}
 use native.Mathlib.Omega.{arith}
 use Rattle.load.specs.declared.counts.Counts.{Counts}
 use Rattle.rules.specs.declared.mode.HeldFlow.{HeldFlow}
@@ -79,7 +79,7 @@ unfolding begun upTo
 held-starts L ok m t c list c′ list′ h s e =
     let whole = e [] [] in
     record {
-      stands = ?;
+      stands = subst (λ (x : Core). Stands L (x .line .next) (x .line .wait)) (sym whole) (upTo-stands L ok (coreOf c list [] []) (s .stands) m t);
       timed = record { clock = rw (ap (λ (x : Core). x .clock) whole) h; way = rw (ap (λ (x : Core). x .way) whole) (s .timed .way) };
     }
 

@@ -6,7 +6,6 @@ use lib.ListN.{replicate}
 use Rattle.rules.specs.declared.mode.Mode.the-variants.{Idle}
 use Rattle.rules.specs.Plan.{origin, state}
 use Rattle.start.specs.Next.{atFirst}
-use Rattle.decide.specs.Storage.{entriesOf}
 use Rattle.start.proofs.origin.origin.Statement.{statement}
 use Rattle.start.proofs.origin.origin.Tie as tie
 
@@ -17,12 +16,13 @@ up-to-requires : tie.Need-up-to-requires
 unfolding atFirst
 up-to-requires c κs =
     let k = c .before .before .before in
-    (k .pre .0, k .pre .1, rw (c .before .nothing .ensures) (omega arith), rw (c .before .nothing .ensures) (omega arith))
+    (k .pre .0, record { arrived = rw (c .before .nothing .ensures) (omega arith); lists = rw (k .pre .1) (record { apart = tt; below = tt }) })
 
 returns : tie.Need-returns
-unfolding origin state atFirst entriesOf
+unfolding origin state atFirst
 returns c =
-    ap (state Idle) (rw (c .before .before .nothing .ensures) at (c .up-to .ensures .0 (replicate 64 0) (replicate 64 0)))
+    let k = c .before .before .before .before in
+    ap (state Idle) (rw (c .before .before .nothing .ensures, k .pre .1) at (c .up-to .ensures (replicate 64 0) (replicate 64 0)))
 
 pub origin-spec : {M : Type 1} → statement M
 origin-spec = tie.close (tie.spec nothing-requires up-to-requires returns)

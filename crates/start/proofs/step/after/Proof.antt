@@ -27,7 +27,7 @@ up-to-requires c κs = search needs
 returns : tie.Need-returns
 unfolding after state
 returns c = λ old gate.
-    let k = c .before .before .before .before .before in
+    let k = c .before .before .before .before in
     let a = k .before .before .args in
     let next = spent (a .turn) (blockAt (a .blocks .now) (a .row .block)) in
     rw (k .spend .ensures)

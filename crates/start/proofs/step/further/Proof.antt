@@ -33,7 +33,7 @@ unfolding rowOf
 after-requires c κs =
     let k = c .before .before .before .before .before .before .before in
     let place = ap (λ (r : Row). r .block) (c .before .before .row-of .ensures [] [] []) in
-    (k .pre .0, (k .pre .1 .0, omega (arith, place, k .pre .1 .0 .stands .arrived)), k .pre .1 .1)
+    (k .pre .0, ((k .pre .1 .0, omega (arith, place, k .pre .1 .0 .stands .arrived)), k .pre .1 .1))
 
 returns-2 : tie.Need-returns-2
 unfolding started nextOf oldest

@@ -1,6 +1,8 @@
 -- `start::step::hold` meets its contract: the clock moves to the end of the hold, and the turn begins there.
+use native.Mathlib.Omega.{arith}
 use borrow.Author.Needs.{needs}
 use Rattle.rules.specs.Plan.{heldUntil, started, turnOf}
+use Rattle.start.proofs.Reaching.{held-starts}
 use Rattle.start.proofs.step.hold.Statement.{statement}
 use Rattle.start.proofs.step.hold.Tie as tie
 
@@ -20,7 +22,10 @@ sub-first : tie.Need-sub-first
 sub-first c = search needs
 
 first-requires : tie.Need-first-requires
-first-requires c κs = search needs
+first-requires c κs =
+    let k = c .before .before .before in
+    let e = k .before .before .before .before .before in
+    (e .pre .0, (held-starts _ (e .pre .0) _ _ _ _ _ _ (omega (arith, k .before .before .later .ensures, e .pre .1 .2 .2, e .pre .1 .2 .3)) (e .pre .1 .0) (k .hold-until .ensures), (e .pre .1 .2 .0, e .pre .1 .2 .1)))
 
 returns : tie.Need-returns
 unfolding started heldUntil turnOf

@@ -10,15 +10,16 @@ use Rattle.start.proofs.step.hold_until.Tie as tie
 up-to-requires : tie.Need-up-to-requires
 up-to-requires c κs = search needs
 
-add-t13 : tie.Need-add-t13
+add-t12 : tie.Need-add-t12
 unfolding upTo
-add-t13 c =
-    let k = c .before .before .before .before in
+add-t12 c =
+    let k = c .before .before .before in
     let same = ap (λ (x : Core). x .turns) (k .up-to .ensures [] []) in
-    omega (arith, same, k .before .before .pre .1 .1)
+    omega (arith, same, k .before .before .before .pre .1 .1)
 
 returns : tie.Need-returns
+unfolding begun
 returns c = λ from gate. ap begun (c .before .before .before .up-to .ensures from gate)
 
 pub hold-until-spec : {M : Type 1} → statement M
-hold-until-spec = tie.close (tie.spec up-to-requires add-t13 returns)
+hold-until-spec = tie.close (tie.spec up-to-requires add-t12 returns)

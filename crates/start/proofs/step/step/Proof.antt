@@ -26,7 +26,7 @@ hold-requires c κs =
     let e = k .before .before .before .before in
     let a = e .args in
     let reached = settled-steps _ (e .pre .0) _ (stateOf (k .settle .result) _ (a .from .now) (a .gate .now)) (e .pre .1) (k .settle .ensures (a .gate .now)) in
-    (e .pre .0, starting _ _ _ _ _ _ reached, few-turns _ _ _ _ _ _ reached, held-fits _ _ _ _ _ _ reached (e .pre .0) _ (c .before .before .before .before .mode .given .1))
+    (e .pre .0, (starting _ _ _ _ _ _ reached, few-turns _ _ _ _ _ _ reached, held-fits _ _ _ _ _ _ reached (e .pre .0) _ (c .before .before .before .before .mode .given .1)))
 
 enum-known-mode-2 : tie.Need-enum-known-mode-2
 enum-known-mode-2 c = search needs
@@ -37,7 +37,7 @@ further-requires c κs =
     let e = k .before .before .before .before in
     let a = e .args in
     let reached = settled-steps _ (e .pre .0) _ (stateOf (k .settle .result) _ (a .from .now) (a .gate .now)) (e .pre .1) (k .settle .ensures (a .gate .now)) in
-    (e .pre .0, starting _ _ _ _ _ _ reached, turn-fits _ _ _ _ _ _ reached (e .pre .0) _ (c .before .before .before .mode2 .given .1))
+    (e .pre .0, (starting _ _ _ _ _ _ reached, turn-fits _ _ _ _ _ _ reached (e .pre .0) _ (c .before .before .before .mode2 .given .1)))
 
 returns : tie.Need-returns
 unfolding step nextOf
