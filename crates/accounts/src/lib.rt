@@ -6,7 +6,7 @@ use rules::round::Round;
 
 // A flow is called to its turn while so many wait: a round opens first where the one before is used up.
 pub fn called(round: Round, waiting: u64) -> Round
-    requires { ⌜ (0 < waiting) × (round .number < 1000000) ⌝ }
+    requires { ⌜ (0 < waiting) × (round .number < 1_000_000) ⌝ }
     ensures { λ r. ⌜ r ≡ Account·called round waiting ⌝ }
 {
     if round.left == 0 {

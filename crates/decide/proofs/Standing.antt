@@ -1,9 +1,8 @@
 -- What a decision asks still holds after the parts of it: the arrivals up to a tick, and the test of a turn, leave a list of flows of
 -- the load, none twice, and the round's number.
-use Prim.Native.Nat.{ℕ, _+_, _≤_}
-use mathlib.Core.Bool.{cond}
+use Prim.Native.Nat.{ℕ, _≤_}
 use mathlib.Core.List.{List, []}
-use mathlib.Core.Path.{_≡_, refl, sym, ap}
+use mathlib.Core.Path.{_≡_, refl, ap}
 use native.Mathlib.Omega.{arith}
 use lib.Dec.{leb, ltb}
 use Rattle.load.proofs.Cases.{by-test}
@@ -12,14 +11,14 @@ use Rattle.rules.specs.declared.mode.Mode.the-variants.{Idle, Holds, InTurn}
 use Rattle.rules.specs.declared.mode.Mode.{Mode}
 use Rattle.rules.specs.declared.round.Round.{Round}
 use Rattle.rules.specs.Account.{noted}
-use Rattle.rules.specs.Load.{Load, blockAt}
-use Rattle.rules.specs.Plan.{Core, Line, State, rejoined, state, tested, upTo, waits, withLine, withRound, woken}
+use Rattle.rules.specs.Load.{Load}
+use Rattle.rules.specs.Plan.{Core, State, rejoined, state, tested, upTo, waits, withLine, withRound, woken}
 use Rattle.rules.specs.Within.{Accepted, Away}
 use Rattle.rules.proofs.Lists.{lists-join, upTo-keep, upTo-lists}
 use Rattle.decide.specs.declared.state.Core as code
 use Rattle.decide.specs.declared.state.Planner.{Planner}
-use Rattle.decide.specs.Room.{Settles, Stands, Takes}
-use Rattle.decide.specs.State.{BecomesFrom, CoreBecomes, coreOf, stateOf}
+use Rattle.decide.specs.Room.{Stands, Takes}
+use Rattle.decide.specs.State.{BecomesFrom, CoreBecomes, coreOf}
 use Rattle.waiting.specs.Entries.{entries}
 
 -- the list counts by its entries alone

@@ -15,7 +15,7 @@ pub fn later(a: u64, b: u64) -> u64
 
 // The run at a later stage: after its own finish at the stage before and the previous block's finish at this one.
 fn run_at(has: bool, own: u64, before: u64, time: u32) -> Span
-    requires { ⌜ (own ≤ 4000000000000) × (before ≤ 4000000000000) ⌝ }
+    requires { ⌜ (own ≤ 4_000_000_000_000) × (before ≤ 4_000_000_000_000) ⌝ }
     ensures { λ r. ⌜ r ≡ laterRun has own before time ⌝ }
 {
     if has {
@@ -33,7 +33,7 @@ fn run_at(has: bool, own: u64, before: u64, time: u32) -> Span
 
 // The way of a block that starts at a tick, after a block whose way was `before`.
 pub fn pass(stages: usize, before: Way, start: u64, block: Block) -> Way
-    requires { ⌜ (start ≤ 1000000000000) × (WayWithin before 1000000000000) ⌝ }
+    requires { ⌜ (start ≤ 1_000_000_000_000) × (WayWithin before 1_000_000_000_000) ⌝ }
     ensures { λ r. ⌜ r ≡ wayOf stages before start block ⌝ }
 {
     let one = Span {

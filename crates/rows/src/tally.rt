@@ -9,7 +9,7 @@ use rules::row::Row;
 
 // The summary with one row more.
 pub fn counted(summary: Summary, stages: usize, row: Row) -> Summary
-    requires { ⌜ SummaryWithin summary × (row .hold < 1000000000000000000) ⌝ }
+    requires { ⌜ SummaryWithin summary × (row .hold < 1_000_000_000_000_000_000) ⌝ }
     ensures { λ r. ⌜ r ≡ Counts·counted stages summary row ⌝ }
 {
     let last = stages::last(stages, row.way);

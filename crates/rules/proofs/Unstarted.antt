@@ -2,12 +2,12 @@
 -- blocks that have arrived, each that isn't started is of a flow that waits, is held or is in its turn; and each flow that waits or
 -- is held has such a block. (`Bounds` shows that no flow is there twice.)
 use Prim.Native.Nat.{ℕ, zero, suc, _+_, _-_, _≤_, _<_, min}
-use mathlib.Core.Bool.{true, false, _||_, or-true}
+use mathlib.Core.Bool.{true, _||_, or-true}
 use mathlib.Core.List.{List, [], _∷_, _++_, append-assoc}
 use mathlib.Core.Path.{_≡_, refl, sym, _∙_}
 use native.Mathlib.Omega.{arith}
 use borrow.Author.Tests.{eq-eqb, eqb-false, eqb-true, le-leb, lt-ltb, ltb-false, ltb-true}
-use lib.Dec.{eqb, leb, ltb}
+use lib.Dec.{eqb, ltb}
 use lib.ListN.{getD, length, replicate, set}
 use lib.Seq.{getD-set-other, getD-set-same}
 use Rattle.load.proofs.Cases.{by-test, cases, either}
