@@ -1,11 +1,11 @@
--- `battery::table::mark` is safe and ends. The table keeps its length; the measure is what is left of it.
+-- `cases::table::mark` is safe and ends. The table keeps its length; the measure is what is left of it.
 use Prim.Native.Nat.{_-_}
 use mathlib.Core.Path.{_≡_}
 use borrow.Author.Needs.{needs}
 use native.Mathlib.Omega.{arith}
 use lib.ListN.{length, length-set}
-use Rattle.battery.proofs.table.mark.Statement.{statement}
-use Rattle.battery.proofs.table.mark.Tie as tie
+use Rattle.cases.proofs.table.mark.Statement.{statement}
+use Rattle.cases.proofs.table.mark.Tie as tie
 
 abbrev Inv-loop : tie.InvT-loop
 Inv-loop table₀ word₀ i₀ i-end table word i = (i-end ≡ length table₀) × (length table ≡ length table₀)

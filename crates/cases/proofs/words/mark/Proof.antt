@@ -1,11 +1,11 @@
--- `battery::words::mark` is safe and ends. The table keeps its length; the measure is what is left of it.
+-- `cases::words::mark` is safe and ends. The table keeps its length; the measure is what is left of it.
 use Prim.Native.Nat.{_-_}
 use mathlib.Core.Path.{_≡_}
 use native.Mathlib.Omega.{arith}
 use borrow.Author.Needs.{needs}
 use lib.ListN.{length, length-set}
-use Rattle.battery.proofs.words.mark.Statement.{statement}
-use Rattle.battery.proofs.words.mark.Tie as tie
+use Rattle.cases.proofs.words.mark.Statement.{statement}
+use Rattle.cases.proofs.words.mark.Tie as tie
 
 abbrev Inv-loop : tie.InvT-loop
 Inv-loop table₀ first word₀ i₀ i-end table word i = (i-end ≡ length table₀) × (length table ≡ length table₀)

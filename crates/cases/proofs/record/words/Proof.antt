@@ -1,8 +1,8 @@
--- `battery::records::words` meets its contract: each index is below its bound.
+-- `cases::record::words` meets its contract: each index is below its bound.
 use Prim.Native.Nat.{_-_, _≤_}
 use borrow.Author.Needs.{needs}
-use Rattle.battery.proofs.records.words.Statement.{statement}
-use Rattle.battery.proofs.records.words.Tie as tie
+use Rattle.cases.proofs.record.words.Statement.{statement}
+use Rattle.cases.proofs.record.words.Tie as tie
 
 abbrev Inv-loop : tie.InvT-loop
 Inv-loop flows words₀ i₀ words i = i ≤ 128

@@ -1,8 +1,8 @@
--- `battery::records::marked` meets its contract: each index is below its bound.
+-- `cases::record::marked` meets its contract: each index is below its bound.
 use Prim.Native.Nat.{_-_, _≤_}
 use borrow.Author.Needs.{needs}
-use Rattle.battery.proofs.records.marked.Statement.{statement}
-use Rattle.battery.proofs.records.marked.Tie as tie
+use Rattle.cases.proofs.record.marked.Statement.{statement}
+use Rattle.cases.proofs.record.marked.Tie as tie
 
 abbrev Inv-loop : tie.InvT-loop
 Inv-loop flows₀ i₀ flows i = i ≤ 128

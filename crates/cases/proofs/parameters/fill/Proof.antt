@@ -1,11 +1,11 @@
--- `battery::planned::fill` is safe and ends. The table keeps its length; the measure is what is left of it.
+-- `cases::parameters::fill` is safe and ends. The table keeps its length; the measure is what is left of it.
 use Prim.Native.Nat.{_-_}
 use mathlib.Core.Path.{_≡_}
 use native.Mathlib.Omega.{arith}
 use borrow.Author.Needs.{needs}
 use lib.ListN.{length, length-set}
-use Rattle.battery.proofs.planned.fill.Statement.{statement}
-use Rattle.battery.proofs.planned.fill.Tie as tie
+use Rattle.cases.proofs.parameters.fill.Statement.{statement}
+use Rattle.cases.proofs.parameters.fill.Tie as tie
 
 abbrev Inv-loop : tie.InvT-loop
 Inv-loop table₀ bytes i₀ i-end table i = (i-end ≡ length table₀) × (length table ≡ length table₀)
@@ -22,7 +22,6 @@ fill-spec =
     (λ c. search needs)
     (λ c. search needs)
     (λ c κs. search needs)
-    (λ c. search needs)
     (λ c. search needs)
     (λ c. search needs)
     (λ c. search needs)

@@ -1,10 +1,11 @@
--- `battery::words::digest` is safe and ends. The digest stays below 2^32, as `with_word` asks; the measure is what is left of the table.
+-- `cases::table::digest` is safe and ends. The digest stays below 2^32, so that its product fits; the measure is what is left
+-- of the table.
 use Prim.Native.Nat.{_<_, _-_}
 use mathlib.Core.Path.{_≡_}
 use borrow.Author.Needs.{needs}
 use lib.ListN.{length}
-use Rattle.battery.proofs.words.digest.Statement.{statement}
-use Rattle.battery.proofs.words.digest.Tie as tie
+use Rattle.cases.proofs.table.digest.Statement.{statement}
+use Rattle.cases.proofs.table.digest.Tie as tie
 
 abbrev Inv-loop : tie.InvT-loop
 Inv-loop table h₀ i₀ i-end h i = (i-end ≡ length table) × (h < 4294967296)
@@ -21,7 +22,9 @@ digest-spec =
     (λ c. search needs)
     (λ c. search needs)
     (λ c. search needs)
+    (λ c. search needs)
     (λ c κs. search needs)
+    (λ c. search needs)
     (λ c. search needs)
     (λ c. search needs)
     (λ c. search needs)

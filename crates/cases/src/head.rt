@@ -1,6 +1,8 @@
 // A case's head: which call it is for, the call's number, and how long the case's two parts are.
-ghost use Prim.Native.Nat.{_<_};
+ghost use Prim.Native.Nat.{_≤_};
+ghost use lib.ListN.{length};
 use libc::STDIN_FILENO;
+use records::bytes::four;
 
 pub enum Call {
     Sound,
@@ -24,23 +26,12 @@ pub enum Next {
     Case(Head),
 }
 
-fn wide(byte: u8) -> usize
-    ensures { λ r. ⌜ r < 256 ⌝ }
+fn parse(bytes: &[u8]) -> Next
+    requires { ⌜ 13 ≤ length (now bytes) ⌝ }
 {
-    byte as usize
-}
-
-// The big-endian number of four bytes.
-pub fn four(a: u8, b: u8, c: u8, d: u8) -> usize
-    ensures { λ r. ⌜ r < 4294967296 ⌝ }
-{
-    ((wide(a) * 256 + wide(b)) * 256 + wide(c)) * 256 + wide(d)
-}
-
-fn parse(bytes: [u8; 13]) -> Next {
-    let number = four(bytes[1], bytes[2], bytes[3], bytes[4]);
-    let standing = four(bytes[5], bytes[6], bytes[7], bytes[8]);
-    let file = four(bytes[9], bytes[10], bytes[11], bytes[12]);
+    let number = four(bytes, 1) as usize;
+    let standing = four(bytes, 5) as usize;
+    let file = four(bytes, 9) as usize;
     let call = match bytes[0] {
         1 => Call::Sound,
         2 => Call::Read(number),
@@ -64,5 +55,5 @@ pub fn read() -> Next {
     if got < 13 {
         return Next::Bad;
     }
-    parse(bytes)
+    parse(&bytes)
 }

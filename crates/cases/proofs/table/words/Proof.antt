@@ -1,10 +1,10 @@
--- `battery::words::all` is safe and ends. The loop runs to the end of the table; the measure is what is left of it.
+-- `cases::table::words` is safe and ends. The loop runs to the end of the table; the measure is what is left of it.
 use Prim.Native.Nat.{_-_}
 use mathlib.Core.Path.{_≡_}
 use borrow.Author.Needs.{needs}
 use lib.ListN.{length}
-use Rattle.battery.proofs.words.all.Statement.{statement}
-use Rattle.battery.proofs.words.all.Tie as tie
+use Rattle.cases.proofs.table.words.Statement.{statement}
+use Rattle.cases.proofs.table.words.Tie as tie
 
 abbrev Inv-loop : tie.InvT-loop
 Inv-loop out₀ at table end₀ i₀ i-end out end i = (i-end ≡ length table)
@@ -12,8 +12,8 @@ Inv-loop out₀ at table end₀ i₀ i-end out end i = (i-end ≡ length table)
 abbrev μ-loop : tie.MeasureT-loop
 μ-loop out₀ at table end₀ i₀ i-end out end i = i-end - i
 
-pub all-spec : {M : Type 1} → statement M
-all-spec =
+pub words-spec : {M : Type 1} → statement M
+words-spec =
     tie.close
     (tie.spec
     Inv-loop
@@ -21,6 +21,7 @@ all-spec =
     (λ c. search needs)
     (λ c. search needs)
     (λ c. search needs)
+    (λ c κs. search needs)
     (λ c κs. search needs)
     (λ c. search needs)
     (λ c. search needs)
