@@ -1,8 +1,8 @@
 // A case after its head: its parts are read, its call is made, and its line is put on the page.
-use crate::head::Call;
-use crate::head::Head;
 use crate::planned;
-use crate::table;
+use cases::head::Call;
+use cases::head::Head;
+use cases::table;
 use libc::STDIN_FILENO;
 use load::refusal::Verdict;
 use loadfile::Answer;

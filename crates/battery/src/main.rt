@@ -1,12 +1,9 @@
 // Runs the cases on standard input against the calls of loadfile and mr3, and writes a line for each.
 mod case;
-mod head;
 mod planned;
-mod records;
-mod table;
-mod words;
 
-use head::Next;
+use cases::head;
+use cases::head::Next;
 
 fn write_line(out: &mut line::Page, at: usize) -> bool {
     let end = line::end(out, at);

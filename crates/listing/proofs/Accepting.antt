@@ -11,8 +11,10 @@ use Rattle.load.specs.declared.refusal.Verdict.the-variants.{Accepted}
 use Rattle.load.specs.Blocks.{blockOf, wordsOf}
 use Rattle.load.specs.Refusals.{given}
 use Rattle.load.specs.Tests.{blockVerdict}
-use Rattle.loadfile.specs.Calls.{contents, tableWords}
-use Rattle.loadfile.specs.Layout.{blockRecords, Contents, parsed}
+use Rattle.records.specs.Records.{blockRecords, parsed}
+use Rattle.body.specs.Body.{tableWords}
+use Rattle.loadfile.specs.Calls.{contents}
+use Rattle.loadfile.specs.Layout.{Contents}
 use Rattle.loadfile.proofs.Passed.{blocks-read, contents-passed}
 use Rattle.rules.specs.Calls.{andThen, blocksVerdict, planVerdict, short}
 

@@ -5,10 +5,13 @@ use Rattle.load.specs.Blocks.{blockOf, wordsOf}
 use Rattle.load.specs.Dominant.{dominantStage, dominantTime}
 use Rattle.load.specs.Refusals.{given}
 use Rattle.load.specs.Tests.{allZero, blockVerdict, countsVerdict, overLimit, timeOver}
-use Rattle.loadfile.specs.Calls.{contents, entry, entryFrom, ownOr, shownBytes, shownName, shownOf, shownPart, tableWords}
-use Rattle.loadfile.specs.Layout.{blockIn, blockMeasured, blockRecord, blockRecords, countsIn, fileWith, flowMeasured, flowRecord, flowRecords, fourBytes, headerVerdict, measure, nameBytes, nameIn, onto, past, records, stopIf, timeIn, twoBytes, unless, whole}
-use Rattle.loadfile.specs.Layout.{after as then}
-use Rattle.loadfile.specs.Parts.{bytesIn}
+use Rattle.records.specs.Standing.{entry, entryFrom}
+use Rattle.records.specs.Records.{blockIn, blockMeasured, blockRecord, blockRecords, flowMeasured, flowRecord, flowRecords, fourBytes, measure, nameBytes, nameIn, onto, past, stopIf, timeIn, twoBytes, unless}
+use Rattle.records.specs.Records.{after as then}
+use Rattle.records.specs.Parts.{bytesIn}
+use Rattle.body.specs.Body.{tableWords}
+use Rattle.loadfile.specs.Calls.{contents, ownOr, shownBytes, shownName, shownOf, shownPart}
+use Rattle.loadfile.specs.Layout.{countsIn, fileWith, headerVerdict, records, whole}
 use Rattle.rules.specs.Account.{called, noted, opened, used}
 use Rattle.rules.specs.Counts.{counted, none, one, summary}
 use Rattle.rules.specs.Examples.{joined, same}

@@ -10,8 +10,10 @@ use lib.ListN.{length, length-append}
 use Rattle.load.specs.declared.counts.Counts.{Counts}
 use Rattle.load.specs.declared.refusal.Refusal.{Refusal}
 use Rattle.load.specs.Refusals.{numberOf}
-use Rattle.loadfile.specs.Calls.{contents, shownName, tableWords}
-use Rattle.loadfile.specs.Layout.{Contents, parsed, Parsed, refused}
+use Rattle.records.specs.Records.{parsed, Parsed, refused}
+use Rattle.body.specs.Body.{tableWords}
+use Rattle.loadfile.specs.Calls.{contents, shownName}
+use Rattle.loadfile.specs.Layout.{Contents}
 use Rattle.loadfile.proofs.Passed.{shown-short}
 use Rattle.rules.specs.declared.answer.Summary.{Summary}
 use Rattle.rules.specs.declared.row.Row.{Row}

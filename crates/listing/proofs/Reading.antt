@@ -13,10 +13,12 @@ use Rattle.load.specs.declared.refusal.Verdict.{Verdict}
 use Rattle.load.specs.declared.refusal.Verdict.the-variants as verdict
 use Rattle.load.specs.Refusals.{given}
 use Rattle.load.proofs.Accepted.{CountsWithin, counts-within}
+use Rattle.records.specs.Records.{parsed, Parsed, refused}
+use Rattle.body.specs.Body.{tableWords}
 use Rattle.loadfile.specs.declared.Answer.{Answer}
 use Rattle.loadfile.specs.declared.Answer.the-variants.{Read, Refused}
-use Rattle.loadfile.specs.Calls.{answerOf, contents, reading, Reads, tableAfter, tableWords}
-use Rattle.loadfile.specs.Layout.{Contents, countsIn, headerVerdict, parsed, Parsed, refused}
+use Rattle.loadfile.specs.Calls.{answerOf, contents, reading, Reads, tableAfter}
+use Rattle.loadfile.specs.Layout.{Contents, countsIn, headerVerdict}
 use Rattle.loadfile.proofs.Files.{contents-records, contents-refused, header-good, reading-records, reading-refused}
 use Rattle.loadfile.proofs.Passed.{contents-passed}
 use Rattle.rules.specs.Calls.{planVerdict, short}

@@ -8,8 +8,10 @@ use lib.ListN.{drop, take}
 use Rattle.load.specs.declared.counts.Counts.{Counts}
 use Rattle.load.specs.declared.refusal.Refusal.{Refusal}
 use Rattle.load.specs.Refusals.{numberOf}
-use Rattle.loadfile.specs.Calls.{contents, shownName, tableWords}
-use Rattle.loadfile.specs.Layout.{Contents, Parsed, parsed, refused}
+use Rattle.records.specs.Records.{Parsed, parsed, refused}
+use Rattle.body.specs.Body.{tableWords}
+use Rattle.loadfile.specs.Calls.{contents, shownName}
+use Rattle.loadfile.specs.Layout.{Contents}
 use Rattle.rules.specs.declared.answer.Summary.{Summary}
 use Rattle.rules.specs.declared.row.Row.{Row}
 use Rattle.rules.specs.declared.stages.Span.{Span}

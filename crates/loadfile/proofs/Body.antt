@@ -13,10 +13,12 @@ use Rattle.load.specs.declared.refusal.Refusal.the-variants.{Record}
 use Rattle.load.specs.declared.refusal.Refusal.{Refusal}
 use Rattle.load.specs.declared.refusal.Verdict.the-variants.{Accepted}
 use Rattle.load.specs.Refusals.{given}
-use Rattle.loadfile.specs.declared.record.Walk.the-variants.{At, Stopped}
-use Rattle.loadfile.specs.Answers.{bodyBlocks, bodyEnd, bodyWalk, walkOf}
-use Rattle.loadfile.specs.Layout.{Parsed, refused, parsed, Contents, after, stopIf, unless, blockRecords, flowRecords, records, whole}
-use Rattle.loadfile.specs.Parts.{Part}
+use Rattle.records.specs.declared.record.Walk.the-variants.{At, Stopped}
+use Rattle.records.specs.Answers.{walkOf}
+use Rattle.records.specs.Records.{Parsed, refused, parsed, after, stopIf, unless, blockRecords, flowRecords}
+use Rattle.records.specs.Parts.{Part}
+use Rattle.body.specs.Body.{bodyBlocks, bodyEnd, bodyWalk}
+use Rattle.loadfile.specs.Layout.{Contents, records, whole}
 
 -- the file, read
 abbrev pub held : Counts → List Part → List Block → Contents

@@ -11,9 +11,11 @@ use Rattle.load.specs.declared.refusal.Verdict.the-variants.{Accepted, Refused}
 use Rattle.load.specs.Refusals.{given}
 use Rattle.load.proofs.Accepted.{CountsWithin, counts-within}
 use Rattle.load.proofs.Cases.{given-accepted, or-false}
+use Rattle.records.specs.Records.{refused, parsed, unless}
+use Rattle.body.specs.Body.{tableWords}
 use Rattle.loadfile.specs.declared.Answer.the-variants as answer
-use Rattle.loadfile.specs.Calls.{answerOf, contents, reading, Reads, tableAfter, tableWords}
-use Rattle.loadfile.specs.Layout.{countsIn, fileWith, headerVerdict, records, refused, parsed, unless, Contents}
+use Rattle.loadfile.specs.Calls.{answerOf, contents, reading, Reads, tableAfter}
+use Rattle.loadfile.specs.Layout.{countsIn, fileWith, headerVerdict, records, Contents}
 
 pub record Header (s : List ℕ) : Type 0 where
   pub long : 10 ≤ length s

@@ -1,12 +1,7 @@
 pub mod Body
 pub mod Examples
 pub mod Files
-pub mod Filling
-pub mod Names
-pub mod Parts
 pub mod Passed
-pub mod Records
 pub mod Refusing
 pub mod Shown
 pub mod Unique
-pub mod Walks

@@ -14,14 +14,17 @@ use Rattle.load.specs.declared.refusal.Verdict.the-variants.{Accepted}
 use Rattle.load.specs.Blocks.{wordsOf}
 use Rattle.load.specs.Tests.{blockVerdict, countsVerdict}
 use Rattle.load.proofs.Cases.{given-accepted}
-use Rattle.loadfile.specs.declared.record.Walk.{Walk}
-use Rattle.loadfile.specs.declared.record.Walk.the-variants.{At, Stopped}
-use Rattle.loadfile.specs.Calls.{ofFile, ofStanding, contents, entry, ownOr, shownBytes, shownName, shownOf, shownPart, tableWords}
-use Rattle.loadfile.specs.Layout.{Parsed, refused, parsed, Contents, after, onto, blockMeasured, blockRecord, blockRecords, countsIn, fileWith, flowRecords, headerVerdict, measure, nameIn, records, whole}
-use Rattle.loadfile.specs.Parts.{Part, bytesIn, empty}
+use Rattle.records.specs.declared.record.Walk.{Walk}
+use Rattle.records.specs.declared.record.Walk.the-variants.{At, Stopped}
+use Rattle.records.specs.Standing.{entry}
+use Rattle.records.specs.Records.{Parsed, refused, parsed, after, onto, blockMeasured, blockRecord, blockRecords, flowRecords, measure, nameIn}
+use Rattle.records.specs.Parts.{Part, bytesIn, empty}
+use Rattle.records.proofs.Records.{flow-record-reads, measure-within, unless-passed}
+use Rattle.body.specs.Body.{tableWords}
+use Rattle.body.proofs.Names.{flows-read}
+use Rattle.loadfile.specs.Calls.{ofFile, ofStanding, contents, ownOr, shownBytes, shownName, shownOf, shownPart}
+use Rattle.loadfile.specs.Layout.{Contents, countsIn, fileWith, headerVerdict, records, whole}
 use Rattle.loadfile.proofs.Body.{held}
-use Rattle.loadfile.proofs.Names.{flows-read}
-use Rattle.loadfile.proofs.Records.{flow-record-reads, measure-within, unless-passed}
 
 -- what was read in two steps was read in each, and what a test let pass was accepted
 record Steps {A B : Type 0} (p : Parsed A) (next : A → ℕ → Parsed B) (b : B) (end : ℕ) : Type 0 where

@@ -7,10 +7,12 @@ use native.Mathlib.Omega.{arith}
 use lib.ListN.{drop}
 use Rattle.load.specs.Refusals.{verdictNumber}
 use Rattle.load.proofs.Accepted.{number-above}
+use Rattle.records.specs.Answers.{verdictOf}
+use Rattle.records.specs.Records.{Parsed, parsed, refused}
+use Rattle.body.specs.Body.{tableWords}
 use Rattle.loadfile.specs.declared.Answer.{Answer}
-use Rattle.loadfile.specs.Answers.{verdictOf}
-use Rattle.loadfile.specs.Calls.{answerCounts, answerNumber, answerOf, reading, Reads, tableAfter, tableWords}
-use Rattle.loadfile.specs.Layout.{Contents, Parsed, parsed, refused}
+use Rattle.loadfile.specs.Calls.{answerCounts, answerNumber, answerOf, reading, Reads, tableAfter}
+use Rattle.loadfile.specs.Layout.{Contents}
 
 pub record Accepts (file table : List ℕ) (answer : Answer) (tableThen : List ℕ) : Type 0 where
   pub load : Contents

@@ -11,15 +11,18 @@ use Rattle.load.specs.declared.counts.Counts.{Counts}
 use Rattle.load.specs.declared.refusal.Refusal.{Refusal}
 use Rattle.load.specs.declared.refusal.Verdict.the-variants.{Accepted, Refused}
 use Rattle.load.specs.declared.refusal.Verdict.{Verdict}
-use Rattle.loadfile.specs.declared.record.Walk.the-variants.{At, Stopped}
-use Rattle.loadfile.specs.declared.record.Walk.{Walk}
-use Rattle.loadfile.specs.Answers.{bodyWalk, ownName, verdictOf}
-use Rattle.loadfile.specs.Calls.{contents, entry, ofFile, ofStanding, ownOr, shownBytes, shownName, shownOf, shownPart, shownPlace, Shows, soundness}
-use Rattle.loadfile.specs.Layout.{Parsed, refused, parsed, Contents, countsIn, flowRecords, headerVerdict, records}
-use Rattle.loadfile.specs.Parts.{empty, IsPart, Part}
+use Rattle.records.specs.declared.record.Walk.the-variants.{At, Stopped}
+use Rattle.records.specs.declared.record.Walk.{Walk}
+use Rattle.records.specs.Answers.{verdictOf}
+use Rattle.records.specs.Standing.{entry}
+use Rattle.records.specs.Records.{Parsed, refused, parsed, flowRecords}
+use Rattle.records.specs.Parts.{empty, IsPart, Part}
+use Rattle.body.specs.Body.{bodyWalk, ownName}
+use Rattle.body.proofs.Names.{own-name}
+use Rattle.loadfile.specs.Calls.{contents, ofFile, ofStanding, ownOr, shownBytes, shownName, shownOf, shownPart, shownPlace, Shows, soundness}
+use Rattle.loadfile.specs.Layout.{Contents, countsIn, headerVerdict, records}
 use Rattle.loadfile.proofs.Body.{body-reads, body-refuses, held}
 use Rattle.loadfile.proofs.Files.{contents-records, contents-refused}
-use Rattle.loadfile.proofs.Names.{own-name}
 
 -- a file that is not sound shows nothing
 pub shown-unsound : (file standing : List ℕ) (flow : ℕ) (r : Refusal) → soundness file ≡ Refused r → shownPart file standing flow ≡ ofStanding empty

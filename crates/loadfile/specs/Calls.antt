@@ -1,21 +1,22 @@
 -- What the three public calls answer, for all arguments.
-use Prim.Native.Nat.{ℕ, zero, suc, _+_, _*_}
+use Prim.Native.Nat.{ℕ, _*_}
 use mathlib.Core.Path.{_≡_}
 use mathlib.Core.Bool.{false, cond}
-use mathlib.Core.List.{List, [], _∷_, _++_}
+use mathlib.Core.List.{List, _++_}
 use denote.Ref.{RefT, now}
 use lib.Dec.{ltb}
 use lib.ListN.{length, getD, drop}
-use Rattle.load.specs.declared.block.Block.{Block}
 use Rattle.load.specs.declared.counts.Counts.{Counts}
 use Rattle.load.specs.declared.refusal.Verdict.{Verdict}
-use Rattle.load.specs.Blocks.{wordsOf}
 use Rattle.load.specs.Refusals.{numberOf}
+use Rattle.records.specs.Answers.{verdictOf}
+use Rattle.records.specs.Parts.{Part, bytesIn, empty, placeIn}
+use Rattle.records.specs.Records.{Parsed, refused, parsed}
+use Rattle.records.specs.Standing.{entry}
+use Rattle.body.specs.Body.{tableWords}
 use Rattle.loadfile.specs.declared.Answer.{Answer}
 use Rattle.loadfile.specs.declared.Answer.the-variants.{Refused, Read}
-use Rattle.loadfile.specs.Layout.{Parsed, refused, parsed, Contents, fileWith}
-use Rattle.loadfile.specs.Answers.{verdictOf}
-use Rattle.loadfile.specs.Parts.{Part, bytesIn, empty, placeIn}
+use Rattle.loadfile.specs.Layout.{Contents, fileWith}
 
 -- The soundness call omits 7.
 unfoldable pub contents : List ℕ → Parsed Contents
@@ -41,10 +42,6 @@ unfoldable pub answerOf : Parsed Contents → Answer
 answerOf (refused r) = Refused r
 answerOf (parsed l at) = Read (l .counts)
 
-unfoldable pub tableWords : List Block → List ℕ
-tableWords [] = []
-tableWords (b ∷ bs) = wordsOf b ++ tableWords bs
-
 -- A refusal leaves the table as before, and room beyond need is left as found.
 unfoldable pub tableAfter : Parsed Contents → List ℕ → List ℕ
 tableAfter (refused r) table = table
@@ -58,15 +55,6 @@ pub record Reads (file table : List ℕ) (answer : Answer) (tableThen : List ℕ
 pub data Shown : Type 0 where
   ofFile : Part → Shown
   ofStanding : Part → Shown
-
--- The entry with the flow's number, from 0, in a standing list (length byte, name, repeated); the empty part at the list's start
--- where the list ends before the last byte of that entry. `entryFrom` counts from the entry that starts at a byte of the list.
-unfoldable pub entryFrom : List ℕ → ℕ → ℕ → Part
-entryFrom list at zero = cond (ltb (at + getD list at 0) (length list)) (record { from = at + 1; size = getD list at 0 }) empty
-entryFrom list at (suc flow) = entryFrom list (at + (1 + getD list at 0)) flow
-
-unfoldable pub entry : List ℕ → ℕ → Part
-entry list flow = entryFrom list 0 flow
 
 -- The file's own name where it has at least one byte, and otherwise the standing list's.
 unfoldable pub ownOr : Part → Part → Shown

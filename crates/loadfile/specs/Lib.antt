@@ -1,5 +1,3 @@
-pub mod Parts
 pub mod Layout
-pub mod Answers
 pub mod Calls
 pub mod Examples

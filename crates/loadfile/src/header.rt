@@ -3,11 +3,11 @@ ghost use mathlib.Core.Path.{_≡_};
 ghost use Prim.Native.Nat.{_≤_};
 ghost use lib.ListN.{length};
 ghost use Rattle.loadfile.specs.Layout.{countsIn, headerVerdict};
-use crate::bytes::four;
-use crate::bytes::two;
 use load::counts::Counts;
 use load::refusal::Refusal;
 use load::refusal::Verdict;
+use records::bytes::four;
+use records::bytes::two;
 
 // The counts that a file of at least ten bytes gives, good or not.
 pub fn counts(file: &[u8]) -> Counts

@@ -1,18 +1,16 @@
 // Load files of version 1: the soundness call, the reader and the name call. `specs/Layout.antt` says what the bytes mean
 // and in which order a file is refused; the three contracts go by that one definition.
-mod bytes;
 mod header;
-mod record;
-mod standing;
-mod table;
-mod walk;
 
 ghost use mathlib.Core.Path.{_≡_};
 ghost use Rattle.loadfile.specs.Calls.{Reads, Shows, soundness};
+use body::table;
+use body::walk;
 use load::counts::Counts;
 use load::refusal::Refusal;
 use load::refusal::Verdict;
-use record::Walk;
+use records::record::Walk;
+use records::standing;
 
 // What the reader answers.
 pub enum Answer {

@@ -1,7 +1,7 @@
 -- `loadfile::sound` meets its contract: the header's refusal is the file's, and after a good header the records' verdict is.
 use mathlib.Core.Path.{ap, sym, _∙_}
 use borrow.Author.Needs.{needs}
-use Rattle.loadfile.specs.Answers.{verdictOf}
+use Rattle.records.specs.Answers.{verdictOf}
 use Rattle.loadfile.specs.Calls.{soundness}
 use Rattle.loadfile.proofs.Body.{body-reads, body-refuses}
 use Rattle.loadfile.proofs.Files.{contents-records, contents-refused, header-good}

@@ -1,0 +1,4 @@
+pub mod Filling
+pub mod Names
+pub mod Unique
+pub mod Walks
