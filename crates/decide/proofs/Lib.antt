@@ -3,3 +3,4 @@ pub mod Deciding
 pub mod Modes
 pub mod Seeking
 pub mod Standing
+pub mod Unique

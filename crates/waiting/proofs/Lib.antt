@@ -1,3 +1,4 @@
 pub mod Heads
 pub mod Moving
 pub mod Places
+pub mod Unique
