@@ -14,7 +14,8 @@ use records::record;
 pub fn fill(file: &[u8], counts: Counts, from: usize, table: &mut [u32])
     requires { ⌜ (counts .stages ≤ 4) × (from ≤ length (now file)) × (6 * counts .blocks ≤ length (now table)) ⌝ }
     requires { ⌜ walkOf (blockRecords (now file) counts 0 (counts .blocks) from) ≡ At (length (now file)) ⌝ }
-    ensures { λ _. ⌜ now (table .exit) ≡ tableWords (listOf (blockRecords (now (file .entry)) counts 0 (counts .blocks) from)) ++ drop (6 * counts .blocks) (now (table .entry)) ⌝ }
+    ensures { λ _. ⌜ now (table .exit)
+        ≡ tableWords (listOf (blockRecords (now (file .entry)) counts 0 (counts .blocks) from)) ++ drop (6 * counts .blocks) (now (table .entry)) ⌝ }
 {
     let size = 7 + 4 * counts.stages;
     let mut at = from;

@@ -56,7 +56,8 @@ pub extern "C" fn xarbulest_plan(
     rows: &mut [u64],
     counts: &mut [u64; 6],
 ) -> u64
-    ensures { λ r. ⌜ PlansInWords (record { stages = stages; flows = flows; blocks = blocks }) limit (now (table .entry)) (now (records .entry)) (now (rows .entry)) r (now (records .exit)) (now (rows .exit)) (now (counts .exit)) ⌝ }
+    ensures { λ r. ⌜ PlansInWords (record { stages = stages; flows = flows; blocks = blocks }) limit
+        (now (table .entry)) (now (records .entry)) (now (rows .entry)) r (now (records .exit)) (now (rows .exit)) (now (counts .exit)) ⌝ }
 {
     let asked = Counts {
         stages,
