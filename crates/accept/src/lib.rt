@@ -46,7 +46,7 @@ fn test_blocks(counts: Counts, blocks: &[u32]) -> Verdict
     let mut left = counts.blocks;
     while 0 < left {
         let block = load::block::at(&blocks[at..]);
-        let verdict = load::block::test(counts, above, block);
+        let verdict = limits::block::test(counts, above, block);
         let Verdict::Accepted = verdict else {
             return verdict;
         };
@@ -66,7 +66,7 @@ pub fn test(
 ) -> Verdict
     ensures { λ r. ⌜ r ≡ planVerdict counts limit (now (blocks .entry)) «flow_records» «row_words» ⌝ }
 {
-    let verdict = load::counts::test(counts);
+    let verdict = limits::counts::test(counts);
     let Verdict::Accepted = verdict else {
         return verdict;
     };

@@ -10,7 +10,7 @@ use Rattle.load.specs.declared.refusal.Refusal.the-variants.{ShortTable}
 use Rattle.load.specs.declared.refusal.Verdict.the-variants.{Accepted}
 use Rattle.load.specs.Blocks.{blockOf, wordsOf}
 use Rattle.load.specs.Refusals.{given}
-use Rattle.load.specs.Tests.{blockVerdict}
+use Rattle.limits.specs.Tests.{blockVerdict}
 use Rattle.records.specs.Records.{blockRecords, parsed}
 use Rattle.body.specs.Body.{tableWords}
 use Rattle.loadfile.specs.Calls.{contents}

@@ -2,9 +2,9 @@
 use mathlib.Core.Bool.{true}
 use mathlib.Core.Path.{_≡_, refl}
 use Rattle.load.specs.Blocks.{blockOf, wordsOf}
-use Rattle.load.specs.Dominant.{dominantStage, dominantTime}
 use Rattle.load.specs.Refusals.{given}
-use Rattle.load.specs.Tests.{allZero, blockVerdict, countsVerdict, overLimit, timeOver}
+use Rattle.dominant.specs.Dominant.{dominantStage, dominantTime}
+use Rattle.limits.specs.Tests.{allZero, blockVerdict, countsVerdict, overLimit, timeOver}
 use Rattle.records.specs.Standing.{entry, entryFrom}
 use Rattle.records.specs.Records.{blockIn, blockMeasured, blockRecord, blockRecords, flowMeasured, flowRecord, flowRecords, fourBytes, measure, nameBytes, nameIn, onto, past, stopIf, timeIn, twoBytes, unless}
 use Rattle.records.specs.Records.{after as then}

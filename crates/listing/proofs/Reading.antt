@@ -12,7 +12,7 @@ use Rattle.load.specs.declared.refusal.Refusal.{Refusal}
 use Rattle.load.specs.declared.refusal.Verdict.{Verdict}
 use Rattle.load.specs.declared.refusal.Verdict.the-variants as verdict
 use Rattle.load.specs.Refusals.{given}
-use Rattle.load.proofs.Accepted.{CountsWithin, counts-within}
+use Rattle.limits.proofs.Accepted.{CountsWithin, counts-within}
 use Rattle.records.specs.Records.{parsed, Parsed, refused}
 use Rattle.body.specs.Body.{tableWords}
 use Rattle.loadfile.specs.declared.Answer.{Answer}

@@ -1,6 +1,6 @@
-pub mod Accepted
 pub mod Cases
-pub mod DominantStage
+pub mod Numbers
 pub mod Once
 pub mod Parts
+pub mod Stages
 pub mod Unique

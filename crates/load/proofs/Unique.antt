@@ -4,29 +4,13 @@ use denote.Ref.{now}
 use Rattle.load.proofs.Once.{OneAnswer, OneExit}
 use Rattle.load.proofs.block.at.Reads as at
 use Rattle.load.proofs.block.put.Reads as put
-use Rattle.load.proofs.block.test.Reads as test-block
-use Rattle.load.proofs.counts.test.Reads as test-counts
-use Rattle.load.proofs.dominant.stage.Reads as stage
-use Rattle.load.proofs.dominant.time.Reads as time
 use Rattle.load.proofs.refusal.number.Reads as number
 
 pub number-once : OneAnswer number.Post
 number-once κs a r r′ s s′ p q = p ∙ sym q
-
-pub test-counts-once : OneAnswer test-counts.Post
-test-counts-once κs a r r′ s s′ p q = p ∙ sym q
-
-pub test-block-once : OneAnswer test-block.Post
-test-block-once κs a r r′ s s′ p q = p ∙ sym q
 
 pub at-once : OneAnswer at.Post
 at-once κs a r r′ s s′ p q = p ∙ sym q
 
 pub put-once : OneExit put.Post (λ κs s. now (s .0))
 put-once κs a r r′ s s′ p q = p ∙ sym q
-
-pub stage-once : OneAnswer stage.Post
-stage-once κs a r r′ s s′ p q = p ∙ sym q
-
-pub time-once : OneAnswer time.Post
-time-once κs a r r′ s s′ p q = p ∙ sym q

@@ -1,4 +1,2 @@
 pub mod Refusals
 pub mod Blocks
-pub mod Tests
-pub mod Dominant

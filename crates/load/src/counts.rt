@@ -1,30 +1,6 @@
 // The three counts of a load.
-ghost use mathlib.Core.Path.{_≡_};
-ghost use Rattle.load.specs.Tests.{countsVerdict};
-use crate::refusal::Refusal;
-use crate::refusal::Verdict;
-
 pub struct Counts {
     pub stages: usize,
     pub flows: usize,
     pub blocks: usize,
-}
-
-// Tests 3 and 4.
-pub fn test(counts: Counts) -> Verdict
-    ensures { λ r. ⌜ r ≡ countsVerdict counts ⌝ }
-{
-    if counts.stages < 1 {
-        return Verdict::Refused(Refusal::Stages);
-    }
-    if 4 < counts.stages {
-        return Verdict::Refused(Refusal::Stages);
-    }
-    if 64 < counts.flows {
-        return Verdict::Refused(Refusal::TooMany);
-    }
-    if 1024 < counts.blocks {
-        return Verdict::Refused(Refusal::TooMany);
-    }
-    Verdict::Accepted
 }

@@ -3,7 +3,7 @@ use mathlib.Core.List.{map}
 use mathlib.Core.Path.{_≡_, refl}
 use Rattle.load.specs.Blocks.{wordsOf}
 use Rattle.load.specs.Refusals.{given}
-use Rattle.load.specs.Tests.{allZero, blockVerdict, countsVerdict, overLimit, timeOver}
+use Rattle.limits.specs.Tests.{allZero, blockVerdict, countsVerdict, overLimit, timeOver}
 use Rattle.records.specs.Answers.{verdictOf}
 use Rattle.records.specs.Standing.{entry, entryFrom}
 use Rattle.records.specs.Records.{after, blockIn, blockMeasured, blockRecord, blockRecords, flowMeasured, flowRecord, flowRecords, fourBytes, measure, nameBytes, nameIn, onto, past, stopIf, timeIn, twoBytes, unless}

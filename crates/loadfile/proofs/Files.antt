@@ -9,8 +9,8 @@ use Rattle.load.specs.declared.refusal.Refusal.the-variants.{ShortTable}
 use Rattle.load.specs.declared.refusal.Refusal.{Refusal}
 use Rattle.load.specs.declared.refusal.Verdict.the-variants.{Accepted, Refused}
 use Rattle.load.specs.Refusals.{given}
-use Rattle.load.proofs.Accepted.{CountsWithin, counts-within}
 use Rattle.load.proofs.Cases.{given-accepted, or-false}
+use Rattle.limits.proofs.Accepted.{CountsWithin, counts-within}
 use Rattle.records.specs.Records.{refused, parsed, unless}
 use Rattle.body.specs.Body.{tableWords}
 use Rattle.loadfile.specs.declared.Answer.the-variants as answer

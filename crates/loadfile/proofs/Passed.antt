@@ -12,8 +12,8 @@ use Rattle.load.specs.declared.block.Block.{Block}
 use Rattle.load.specs.declared.counts.Counts.{Counts}
 use Rattle.load.specs.declared.refusal.Verdict.the-variants.{Accepted}
 use Rattle.load.specs.Blocks.{wordsOf}
-use Rattle.load.specs.Tests.{blockVerdict, countsVerdict}
 use Rattle.load.proofs.Cases.{given-accepted}
+use Rattle.limits.specs.Tests.{blockVerdict, countsVerdict}
 use Rattle.records.specs.declared.record.Walk.{Walk}
 use Rattle.records.specs.declared.record.Walk.the-variants.{At, Stopped}
 use Rattle.records.specs.Standing.{entry}

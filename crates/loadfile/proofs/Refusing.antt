@@ -6,7 +6,7 @@ use mathlib.Core.Path.{_≡_, refl}
 use native.Mathlib.Omega.{arith}
 use lib.ListN.{drop}
 use Rattle.load.specs.Refusals.{verdictNumber}
-use Rattle.load.proofs.Accepted.{number-above}
+use Rattle.load.proofs.Numbers.{number-above}
 use Rattle.records.specs.Answers.{verdictOf}
 use Rattle.records.specs.Records.{Parsed, parsed, refused}
 use Rattle.body.specs.Body.{tableWords}

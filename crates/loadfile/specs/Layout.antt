@@ -11,7 +11,7 @@ use Rattle.load.specs.declared.refusal.Refusal.the-variants.{Version, FileLengt
 use Rattle.load.specs.declared.refusal.Verdict.{Verdict}
 use Rattle.load.specs.declared.refusal.Verdict.the-variants.{Accepted}
 use Rattle.load.specs.Refusals.{given}
-use Rattle.load.specs.Tests.{countsVerdict}
+use Rattle.limits.specs.Tests.{countsVerdict}
 use Rattle.records.specs.Parts.{Part}
 use Rattle.records.specs.Records.{Parsed, parsed, after, unless, twoBytes, fourBytes, flowRecords, blockRecords}
 

@@ -37,5 +37,5 @@ pub fn test(file: &[u8]) -> Verdict
     if four(file, 1) as usize != file.len() - 5 {
         return Verdict::Refused(Refusal::FileLength);
     }
-    load::counts::test(counts(file))
+    limits::counts::test(counts(file))
 }

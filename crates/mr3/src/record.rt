@@ -49,7 +49,7 @@ fn add(blocks: &[u32], rows: &[u64], k: usize, left: usize) -> Change
     let block = rows[at] as usize;
     let flow = rows[at + 1] as usize;
     let turns = begins(turn_above(rows, k), rows[at + 3]);
-    let time = load::dominant::time(load::block::at(&blocks[6 * block..]));
+    let time = dominant::time(load::block::at(&blocks[6 * block..]));
     Change {
         go: true,
         flow,

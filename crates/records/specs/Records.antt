@@ -11,7 +11,7 @@ use Rattle.load.specs.declared.refusal.Refusal.{Refusal}
 use Rattle.load.specs.declared.refusal.Refusal.the-variants.{Record, NameByte}
 use Rattle.load.specs.declared.refusal.Verdict.{Verdict}
 use Rattle.load.specs.declared.refusal.Verdict.the-variants.{Accepted, Refused}
-use Rattle.load.specs.Tests.{blockVerdict}
+use Rattle.limits.specs.Tests.{blockVerdict}
 use Rattle.records.specs.declared.record.Walk.{Walk}
 use Rattle.records.specs.declared.record.Walk.the-variants.{At, Stopped}
 use Rattle.records.specs.Parts.{Part, bytesIn}

@@ -110,7 +110,7 @@ pub fn block(rest: &[u8], counts: Counts, above: u32) -> Found
         return Found::Stopped(why);
     }
     let block = fields(rest, counts.stages);
-    match load::block::test(counts, above, block) {
+    match limits::block::test(counts, above, block) {
         Verdict::Refused(why) => Found::Stopped(why),
         Verdict::Accepted => Found::Holds(block),
     }

@@ -15,10 +15,11 @@ use Rattle.load.specs.declared.refusal.Refusal.{Refusal}
 use Rattle.load.specs.declared.refusal.Verdict.the-variants as verdict
 use Rattle.load.specs.declared.refusal.Verdict.{Verdict}
 use Rattle.load.specs.Blocks.{blockOf}
-use Rattle.load.specs.Dominant.{dominantStage}
-use Rattle.load.specs.Tests.{blockVerdict, countsVerdict}
-use Rattle.load.proofs.Accepted.{counts-within, BlockWithinLimits, block-within-limits}
 use Rattle.load.proofs.Cases.{cases, given-accepted, or-false}
+use Rattle.dominant.specs.Dominant.{dominantStage}
+use Rattle.dominant.proofs.DominantStage.{dominant-above, dominant-time}
+use Rattle.limits.specs.Tests.{blockVerdict, countsVerdict}
+use Rattle.limits.proofs.Accepted.{counts-within, BlockWithinLimits, block-within-limits}
 use Rattle.rules.specs.Calls.{andThen, blocksVerdict, planVerdict, short}
 use Rattle.rules.specs.Load.{blockAt, loadOf}
 use Rattle.rules.specs.Within.{Accepted}
@@ -111,7 +112,11 @@ module _ (c : Counts) (n : ℕ) (table : List ℕ) (flowRecords rowWords : ℕ) 
 
   -- a block's dominant stage is one of the load's, and arrivals never fall
   pub stage-there : (i : ℕ) → i < c .blocks → dominantStage (blockAt table i) ≤ c .stages
-  stage-there i h = each-accepted c table (tests .2) i h .stage
+  stage-there i h =
+      let b = blockAt table i in
+      let ok = each-accepted c table (tests .2) i h in
+      let dominant = dominant-time b in
+      ok .there (dominantStage b) (dominant .0) (dominant .1) (rw (dominant .2) (dominant-above b (ok .some-time)))
 
   pub sorted : (i j : ℕ) → i ≤ j → j < c .blocks → blockAt table i .arrival ≤ blockAt table j .arrival
   sorted i zero h below = let same : i ≡ 0 = omega arith in rw same (omega arith)

@@ -8,8 +8,8 @@ use borrow.Author.Tests.{eqb-true, ltb-true}
 use lib.Dec.{eqb, ltb}
 use lib.ListN.{getD, replicate, set}
 use Rattle.load.specs.declared.block.Block.{Block}
-use Rattle.load.specs.Dominant.{dominantTime}
 use Rattle.load.proofs.Cases.{by-test}
+use Rattle.dominant.specs.Dominant.{dominantTime}
 use Rattle.rules.specs.declared.stages.Span.{Span}
 use Rattle.rules.specs.declared.stages.Way.{Way}
 use Rattle.rules.specs.Load.{Load, blockAt, seek}

@@ -10,8 +10,8 @@ use lib.Dec.{eqb}
 use lib.ListN.{drop, length}
 use Rattle.load.specs.declared.counts.Counts.{Counts}
 use Rattle.load.specs.declared.refusal.Verdict.the-variants as verdict
-use Rattle.load.specs.Dominant.{dominantTime}
 use Rattle.load.proofs.Cases.{cases}
+use Rattle.dominant.specs.Dominant.{dominantTime}
 use Rattle.rules.specs.declared.answer.Planned.{Planned}
 use Rattle.rules.specs.declared.record.FlowRecord.{FlowRecord}
 use Rattle.rules.specs.declared.row.Row.{Row}

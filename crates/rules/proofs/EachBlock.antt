@@ -12,7 +12,7 @@ use lib.ListN.{getD}
 use Rattle.load.specs.declared.counts.Counts.{Counts}
 use Rattle.load.specs.declared.refusal.Verdict.the-variants as verdict
 use Rattle.load.proofs.Cases.{cases}
-use Rattle.load.proofs.DominantStage.{dominant-time}
+use Rattle.dominant.proofs.DominantStage.{dominant-time}
 use Rattle.rules.specs.declared.answer.Summary.{Summary}
 use Rattle.rules.specs.declared.row.Row.{Row}
 use Rattle.rules.specs.Calls.{planVerdict}

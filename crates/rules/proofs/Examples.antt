@@ -2,9 +2,9 @@
 use mathlib.Core.Bool.{true, _&&_}
 use mathlib.Core.Path.{_≡_, refl}
 use Rattle.load.specs.Blocks.{blockOf}
-use Rattle.load.specs.Dominant.{dominantStage, dominantTime}
 use Rattle.load.specs.Refusals.{given}
-use Rattle.load.specs.Tests.{allZero, blockVerdict, countsVerdict, overLimit, timeOver}
+use Rattle.dominant.specs.Dominant.{dominantStage, dominantTime}
+use Rattle.limits.specs.Tests.{allZero, blockVerdict, countsVerdict, overLimit, timeOver}
 use Rattle.rules.specs.Account.{called, noted, opened, used}
 use Rattle.rules.specs.Calls.{andThen, answerOf, blocksVerdict, flowsAfter, planVerdict, rowsAfter, short}
 use Rattle.rules.specs.Counts.{added, counted, none, one, recorded, records, summary, unlisted}

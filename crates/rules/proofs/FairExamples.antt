@@ -10,11 +10,11 @@ use borrow.Author.Tests.{ltb-false, ltb-true}
 use lib.Dec.{ltb}
 use lib.ListN.{getD}
 use Rattle.load.specs.declared.refusal.Verdict.the-variants as verdict
-use Rattle.load.specs.Dominant.{dominantStage, dominantTime}
 use Rattle.load.specs.Blocks.{blockOf}
 use Rattle.load.specs.Refusals.{given}
-use Rattle.load.specs.Tests.{allZero, blockVerdict, countsVerdict, overLimit, timeOver}
 use Rattle.load.proofs.Cases.{and-true, cases}
+use Rattle.dominant.specs.Dominant.{dominantStage, dominantTime}
+use Rattle.limits.specs.Tests.{allZero, blockVerdict, countsVerdict, overLimit, timeOver}
 use Rattle.rules.specs.declared.row.Row.{Row}
 use Rattle.rules.specs.Account.{called, noted, opened, used}
 use Rattle.rules.specs.Calls.{andThen, blocksVerdict, planVerdict, short}

@@ -10,7 +10,7 @@ use Rattle.load.specs.declared.counts.Counts.{Counts}
 use Rattle.load.specs.declared.refusal.Verdict.{Verdict}
 use Rattle.load.specs.declared.refusal.Verdict.the-variants as verdict
 use Rattle.load.specs.Refusals.{verdictNumber}
-use Rattle.load.proofs.Accepted.{number-above}
+use Rattle.load.proofs.Numbers.{number-above}
 use Rattle.rules.specs.declared.answer.Planned.{Planned}
 use Rattle.rules.specs.declared.record.FlowRecord.{FlowRecord}
 use Rattle.rules.specs.Calls.{answerNumber, answerOf, answerSummary, flowsAfter, Plans, planVerdict, rowsAfter}

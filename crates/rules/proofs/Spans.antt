@@ -8,7 +8,7 @@ use Rattle.rules.specs.declared.stages.Way.{Way}
 use Rattle.rules.specs.Stages.{lastRun, laterRun, runAt, wayOf}
 use Rattle.rules.specs.Fairness.{ticksWithin}
 use Rattle.rules.proofs.Accounts.{Served, Ticks}
-use Rattle.load.proofs.DominantStage.{four-cases, timeAt}
+use Rattle.load.proofs.Stages.{four-cases, timeAt}
 
 -- a run at a stage of a load with so many, from its start up to its finish
 pub record Passes (start end time : ℕ) (run : Span) : Type 0 where

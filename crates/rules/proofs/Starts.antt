@@ -12,8 +12,8 @@ use lib.Seq.{getD-set-other, getD-set-same}
 use Rattle.load.specs.declared.block.Block.{Block}
 use Rattle.load.specs.declared.counts.Counts.{Counts}
 use Rattle.load.specs.declared.refusal.Verdict.the-variants as verdict
-use Rattle.load.specs.Dominant.{dominantStage, dominantTime}
 use Rattle.load.proofs.Cases.{cases}
+use Rattle.dominant.specs.Dominant.{dominantStage, dominantTime}
 use Rattle.rules.specs.declared.stages.Way.{Way}
 use Rattle.rules.specs.declared.mode.HeldFlow.{HeldFlow}
 use Rattle.rules.specs.declared.mode.Mode.the-variants.{Idle, Holds, InTurn}
@@ -33,7 +33,7 @@ use Rattle.rules.proofs.Unstarted.{flowAt, oldest-from, set-cases}
 use Rattle.rules.specs.Fairness.{servedBy, ticksWithin}
 use Rattle.rules.proofs.Accounts.{In, Out, Served, Starts, Ticks}
 use Rattle.rules.proofs.Decisions.{account, listedAs}
-use Rattle.load.proofs.DominantStage.{dominant-time}
+use Rattle.dominant.proofs.DominantStage.{dominant-time}
 use Rattle.rules.proofs.Kept.{Kept, KeptAt, ModeKept, upTo-kept}
 use Rattle.rules.proofs.Spans.{passes-served, way-passes, way-ticks}
 use Rattle.rules.proofs.Standing.{allowed, allowed-grows, arrivals-same, split-length, standingIn}

@@ -11,7 +11,7 @@ use Rattle.load.specs.declared.refusal.Verdict.{Verdict}
 use Rattle.load.specs.declared.refusal.Verdict.the-variants as verdict
 use Rattle.load.specs.Blocks.{blockOf}
 use Rattle.load.specs.Refusals.{given, numberOf}
-use Rattle.load.specs.Tests.{blockVerdict, countsVerdict}
+use Rattle.limits.specs.Tests.{blockVerdict, countsVerdict}
 use Rattle.rules.specs.declared.answer.Planned.{Planned}
 use Rattle.rules.specs.declared.answer.Planned.the-variants.{Refused, Plan}
 use Rattle.rules.specs.declared.answer.Summary.{Summary}

@@ -4,7 +4,7 @@ use mathlib.Core.List.{List, [], _∷_}
 use mathlib.Core.Path.{_≡_}
 use lib.Dec.{eqb}
 use Rattle.load.specs.declared.block.Block.{Block}
-use Rattle.load.specs.Dominant.{dominantStage, dominantTime}
+use Rattle.dominant.specs.Dominant.{dominantStage, dominantTime}
 use Rattle.rules.specs.declared.row.Row.{Row}
 use Rattle.rules.specs.declared.stages.Span.{Span}
 use Rattle.rules.specs.Counts.{one}

@@ -5,7 +5,7 @@ use mathlib.Core.Bool.{Bool, true, false, cond, _&&_, _||_}
 use mathlib.Core.List.{List, [], _∷_}
 use mathlib.Core.Path.{_≡_}
 use lib.Dec.{eqb, leb, ltb}
-use Rattle.load.specs.Dominant.{dominantTime}
+use Rattle.dominant.specs.Dominant.{dominantTime}
 use Rattle.rules.specs.declared.row.Row.{Row}
 use Rattle.rules.specs.declared.stages.Span.{Span}
 use Rattle.rules.specs.Counts.{one}

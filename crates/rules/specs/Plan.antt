@@ -6,7 +6,7 @@ use mathlib.Core.Option.{Option, none, some}
 use lib.Dec.{eqb, leb, ltb}
 use lib.ListN.{length, getD, set, replicate}
 use Rattle.load.specs.declared.block.Block.{Block}
-use Rattle.load.specs.Dominant.{dominantStage, dominantTime}
+use Rattle.dominant.specs.Dominant.{dominantStage, dominantTime}
 use Rattle.rules.specs.declared.entry.Entry.{Entry}
 use Rattle.rules.specs.declared.mode.HeldFlow.{HeldFlow}
 use Rattle.rules.specs.declared.mode.Mode.{Mode}

@@ -52,7 +52,7 @@ fn row_of(counts: Counts, blocks: &[u32], core: Core, turn: Turn, hold: u64, pla
         turn: core.turns,
         balance: less(turn.allowance, turn.spent),
         hold,
-        stage: load::dominant::stage(block) as u64,
+        stage: dominant::stage(block) as u64,
         way,
     }
 }
@@ -63,7 +63,7 @@ fn spend(blocks: &[u32], turn: Turn, place: usize) -> Turn
     ensures { λ r. ⌜ r ≡ spent turn (blockAt (now (blocks .entry)) place) ⌝ }
 {
     let at = 6 * place;
-    let time = load::dominant::time(load::block::at(&blocks[at..]));
+    let time = dominant::time(load::block::at(&blocks[at..]));
     Turn {
         flow: turn.flow,
         allowance: turn.allowance,

@@ -3,8 +3,8 @@ use mathlib.Core.Path.{_≡_, sym, _∙_}
 use borrow.Author.Needs.{needs}
 use Rattle.load.specs.declared.refusal.Verdict.the-variants.{Accepted}
 use Rattle.load.specs.Refusals.{given}
-use Rattle.load.specs.Tests.{countsVerdict}
-use Rattle.load.proofs.Accepted.{counts-within}
+use Rattle.limits.specs.Tests.{countsVerdict}
+use Rattle.limits.proofs.Accepted.{counts-within}
 use Rattle.rules.specs.Calls.{andThen, planVerdict}
 use Rattle.rules.proofs.Accepting.{lent}
 use Rattle.accept.proofs.test.Statement.{statement}

@@ -9,8 +9,8 @@ use lib.Dec.{ltb}
 use lib.ListN.{drop, getD}
 use lib.Seq.{getD-drop}
 use Rattle.load.specs.Blocks.{blockOf}
-use Rattle.load.specs.Dominant.{dominantTime}
 use Rattle.load.proofs.Parts.{part-rest}
+use Rattle.dominant.specs.Dominant.{dominantTime}
 use Rattle.rules.specs.Counts.{one}
 use Rattle.rules.specs.Load.{blockAt}
 use Rattle.rules.specs.Rows.{rowAt}

@@ -1,4 +1,4 @@
--- `records::record::block` meets its contract: the record is measured, and the block in it is judged by `load::block::test`.
+-- `records::record::block` meets its contract: the record is measured, and the block in it is judged by `limits::block::test`.
 use mathlib.Core.Path.{sym, _∙_}
 use native.Mathlib.Omega.{arith}
 use borrow.Author.Needs.{needs}

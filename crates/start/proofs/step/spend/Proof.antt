@@ -1,8 +1,8 @@
 -- `start::step::spend` meets its contract: the time is that of the block at the place.
 use mathlib.Core.Path.{ap, refl, _∙_}
 use borrow.Author.Needs.{needs}
-use Rattle.load.specs.Dominant.{dominantTime}
 use Rattle.load.proofs.Parts.{part-rest}
+use Rattle.dominant.specs.Dominant.{dominantTime}
 use Rattle.rules.specs.Load.{blockAt}
 use Rattle.rules.specs.Plan.{spent}
 use Rattle.start.proofs.step.spend.Statement.{statement}

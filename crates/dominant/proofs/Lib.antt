@@ -1,0 +1,2 @@
+pub mod DominantStage
+pub mod Unique
