@@ -20,8 +20,9 @@ use Rattle.rules.proofs.Demand3.{rows-back}
 use Rattle.rules.proofs.Whole.{plan-blocks, plan-length}
 use Rattle.line.specs.Pages.{Put}
 use Rattle.line.proofs.Pages.{put-then}
+use Rattle.lines.specs.Lines.{countsLine, rowLines}
 use Rattle.listing.specs.Asked.{Asked, verdict}
-use Rattle.listing.specs.Listing.{countsLine, planLines, rowLines}
+use Rattle.listing.specs.Listing.{planLines}
 
 module _ (c : Counts) (table rows : List ℕ) (answer : Planned) (rowsThen : List ℕ) (accepted : verdict c table rows ≡ Accepted) (asked : Asked c table rows answer rowsThen) where
   abbrev rs : List Row

@@ -20,9 +20,10 @@ use Rattle.rules.specs.Plan.{after, arrivals, arrived, begins, begun, busy, fir
 use Rattle.rules.specs.Stages.{lastRun, laterRun, runAt, wayOf}
 use Rattle.rules.specs.Waiting.{listed}
 use Rattle.line.specs.Numerals.{decimalOf, digitsIn}
+use Rattle.lines.specs.Lines.{countsLine, refusedLine, rowLine, rowLines, runs, shown, startFinish}
 use Rattle.listing.specs.Examples.{allPrint, examples, E3, all-zero, one-stage, three-stages, four-stages}
-use Rattle.listing.specs.Listing.{countsLine, listing, listingOf, planLines, refusedLine, rowLine, rowLines, runs, shown, startFinish}
+use Rattle.listing.specs.Listing.{listing, listingOf, planLines}
 
 pub examples-print : allPrint examples ≡ true
-unfolding blockOf wordsOf dominantStage dominantTime given allZero blockVerdict countsVerdict overLimit timeOver contents entry entryFrom ownOr shownBytes shownName shownOf shownPart tableWords bytesIn blockIn blockMeasured blockRecord blockRecords countsIn fileWith flowMeasured flowRecord flowRecords fourBytes headerVerdict measure nameBytes nameIn onto past records stopIf timeIn twoBytes unless whole then called noted opened used counted none one summary joined same blockAt seek after arrivals arrived begins begun busy first further heldUntil none-yet oldest onward origin plan readied rejoined rowOf rowsFrom run settled spent started state step taken tested turnOf upTo waits where-waits withLine withRound woken lastRun laterRun runAt wayOf listed decimalOf digitsIn allPrint examples E3 all-zero one-stage three-stages four-stages countsLine listing listingOf planLines refusedLine rowLine rowLines runs shown startFinish
+unfolding blockOf wordsOf dominantStage dominantTime given allZero blockVerdict countsVerdict overLimit timeOver contents entry entryFrom ownOr shownBytes shownName shownOf shownPart tableWords bytesIn blockIn blockMeasured blockRecord blockRecords countsIn fileWith flowMeasured flowRecord flowRecords fourBytes headerVerdict measure nameBytes nameIn onto past records stopIf timeIn twoBytes unless whole then called noted opened used counted none one summary joined same blockAt seek after arrivals arrived begins begun busy first further heldUntil none-yet oldest onward origin plan readied rejoined rowOf rowsFrom run settled spent started state step taken tested turnOf upTo waits where-waits withLine withRound woken lastRun laterRun runAt wayOf listed decimalOf digitsIn allPrint examples E3 all-zero one-stage three-stages four-stages countsLine refusedLine rowLine rowLines runs shown startFinish listing listingOf planLines
 examples-print = refl

@@ -22,7 +22,8 @@ use Rattle.loadfile.specs.Layout.{Contents, countsIn, headerVerdict}
 use Rattle.loadfile.proofs.Files.{contents-records, contents-refused, header-good, reading-records, reading-refused}
 use Rattle.loadfile.proofs.Passed.{contents-passed}
 use Rattle.rules.specs.Calls.{planVerdict, short}
-use Rattle.listing.specs.Listing.{listing, listingOf, planLines, refusedLine}
+use Rattle.lines.specs.Lines.{refusedLine}
+use Rattle.listing.specs.Listing.{listing, listingOf, planLines}
 use Rattle.listing.proofs.Accepting.{read-is-planned}
 
 -- with so much room the reader gives no 7

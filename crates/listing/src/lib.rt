@@ -1,6 +1,4 @@
-// What is printed of a load file, made whole before a byte of it is written. `specs/Listing.antt` has its bytes.
-mod lines;
-
+// What is printed of a load file, made whole before a byte of it is written. `specs/Listing.antt` has its lines.
 ghost use mathlib.Core.Path.{_≡_};
 ghost use Prim.Native.Nat.{_≤_};
 ghost use lib.ListN.{length};

@@ -1,9 +1,9 @@
--- `listing::lines::refused` meets its contract: the word, the number and the end of the line.
+-- `lines::refused` meets its contract: the word, the number and the end of the line.
 use borrow.Author.Needs.{needs}
 use Rattle.line.proofs.Pages.{put-then}
-use Rattle.listing.specs.Listing.{refusedLine}
-use Rattle.listing.proofs.lines.refused.Statement.{statement}
-use Rattle.listing.proofs.lines.refused.Tie as tie
+use Rattle.lines.specs.Lines.{refusedLine}
+use Rattle.lines.proofs.refused.Statement.{statement}
+use Rattle.lines.proofs.refused.Tie as tie
 
 returns : tie.Need-returns
 unfolding refusedLine

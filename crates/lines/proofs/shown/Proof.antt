@@ -1,13 +1,13 @@
--- `listing::lines::shown` meets its contract: the name's bytes, or a dash where it has none.
+-- `lines::shown` meets its contract: the name's bytes, or a dash where it has none.
 use mathlib.Core.List.{List, [], _∷_}
 use mathlib.Core.Path.{_≡_, refl}
 use Prim.Native.Nat.{ℕ}
 use native.Mathlib.Omega.{arith}
 use borrow.Author.Needs.{needs}
 use lib.ListN.{length}
-use Rattle.listing.specs.Listing.{dash, shown}
-use Rattle.listing.proofs.lines.shown.Statement.{statement}
-use Rattle.listing.proofs.lines.shown.Tie as tie
+use Rattle.lines.specs.Lines.{dash, shown}
+use Rattle.lines.proofs.shown.Statement.{statement}
+use Rattle.lines.proofs.shown.Tie as tie
 
 shown-dash : (name : List ℕ) → length name ≡ 0 → shown name ≡ dash
 unfolding shown

@@ -1,7 +1,7 @@
--- `listing::lines::name` meets its contract: the name call's part, shown.
+-- `lines::name` meets its contract: the name call's part, shown.
 use borrow.Author.Needs.{needs}
-use Rattle.listing.proofs.lines.name.Statement.{statement}
-use Rattle.listing.proofs.lines.name.Tie as tie
+use Rattle.lines.proofs.name.Statement.{statement}
+use Rattle.lines.proofs.name.Tie as tie
 
 returns : tie.Need-returns
 returns c = rw (c .before .before .name .ensures .bytes) at (c .shown .ensures)

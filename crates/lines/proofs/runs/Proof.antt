@@ -1,10 +1,10 @@
--- `listing::lines::runs` meets its contract: the runs at the four stages, one behind the other, by the row's last eight words.
+-- `lines::runs` meets its contract: the runs at the four stages, one behind the other, by the row's last eight words.
 use borrow.Author.Needs.{needs}
 use Rattle.rules.specs.Rows.{rowAt}
 use Rattle.line.proofs.Pages.{put-then}
-use Rattle.listing.specs.Listing.{runs}
-use Rattle.listing.proofs.lines.runs.Statement.{statement}
-use Rattle.listing.proofs.lines.runs.Tie as tie
+use Rattle.lines.specs.Lines.{runs}
+use Rattle.lines.proofs.runs.Statement.{statement}
+use Rattle.lines.proofs.runs.Tie as tie
 
 returns : tie.Need-returns
 unfolding runs rowAt

@@ -1,9 +1,9 @@
--- `listing::lines::counts` meets its contract: the six counts, each behind the one before, and the end of the line.
+-- `lines::counts` meets its contract: the six counts, each behind the one before, and the end of the line.
 use borrow.Author.Needs.{needs}
 use Rattle.line.proofs.Pages.{put-then}
-use Rattle.listing.specs.Listing.{countsLine}
-use Rattle.listing.proofs.lines.counts.Statement.{statement}
-use Rattle.listing.proofs.lines.counts.Tie as tie
+use Rattle.lines.specs.Lines.{countsLine}
+use Rattle.lines.proofs.counts.Statement.{statement}
+use Rattle.lines.proofs.counts.Tie as tie
 
 returns : tie.Need-returns
 unfolding countsLine

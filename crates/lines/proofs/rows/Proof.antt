@@ -1,4 +1,4 @@
--- `listing::lines::rows` meets its contract. Of the page so far the invariant says what it is for: whatever puts the lines of the rows that are left
+-- `lines::rows` meets its contract. Of the page so far the invariant says what it is for: whatever puts the lines of the rows that are left
 -- behind it, puts the lines of all rows behind what was there. The measure is how many are left.
 use Prim.Native.Nat.{ℕ, zero, suc, _+_, _-_, _*_, _≤_, _<_}
 use mathlib.Core.List.{List, [], _++_}
@@ -13,9 +13,9 @@ use Rattle.loadfile.specs.Calls.{shownName}
 use Rattle.rules.specs.Rows.{rowAt, rowsIn}
 use Rattle.line.specs.Pages.{Put, room}
 use Rattle.line.proofs.Pages.{put-nothing, put-then}
-use Rattle.listing.specs.Listing.{rowLine, rowLines}
-use Rattle.listing.proofs.lines.rows.Statement.{statement}
-use Rattle.listing.proofs.lines.rows.Tie as tie
+use Rattle.lines.specs.Lines.{rowLine, rowLines}
+use Rattle.lines.proofs.rows.Statement.{statement}
+use Rattle.lines.proofs.rows.Tie as tie
 
 -- the lines of so many rows, from a word of the table on
 abbrev linesFrom : List ℕ → ℕ → List ℕ → ℕ → ℕ → List ℕ

@@ -1,11 +1,11 @@
-// The lines of a listing, each put behind what the page has. `specs/Listing.antt` has the bytes of each.
+// The lines of a listing, each put behind what the page has. `specs/Lines.antt` has the bytes of each.
 ghost use mathlib.Core.List.{[]};
 ghost use Prim.Native.Nat.{_*_, _≤_};
 ghost use lib.ListN.{length};
 ghost use Rattle.loadfile.specs.Calls.{shownName};
 ghost use Rattle.rules.specs.Rows.{rowAt, rowsIn};
 ghost use Rattle.line.specs.Pages.{Put, room};
-ghost use Rattle.listing.specs.Listing.{countsLine, refusedLine, rowLine, rowLines, runs as Listing·runs, shown as Listing·shown, startFinish};
+ghost use Rattle.lines.specs.Lines.{countsLine, refusedLine, rowLine, rowLines, runs as Lines·runs, shown as Lines·shown, startFinish};
 use line::Page;
 use load::refusal::Refusal;
 use load::refusal::Verdict;
@@ -33,7 +33,7 @@ pub fn counts(out: &mut Page, summary: Summary) -> usize
 
 // A name, or a dash where it is empty.
 fn shown(out: &mut Page, at: usize, name: &[u8]) -> usize
-    ensures { λ r. ⌜ Put (now (out .entry)) at (Listing·shown (now (name .entry))) (now (out .exit)) r ⌝ }
+    ensures { λ r. ⌜ Put (now (out .entry)) at (Lines·shown (now (name .entry))) (now (out .exit)) r ⌝ }
 {
     if name.len() == 0 {
         return line::put(out, at, b'-');
@@ -43,7 +43,7 @@ fn shown(out: &mut Page, at: usize, name: &[u8]) -> usize
 
 // The name shown for a flow, with an empty standing list.
 fn name(out: &mut Page, at: usize, file: &[u8], flow: u64) -> usize
-    ensures { λ r. ⌜ Put (now (out .entry)) at (Listing·shown (shownName (now (file .entry)) [] flow)) (now (out .exit)) r ⌝ }
+    ensures { λ r. ⌜ Put (now (out .entry)) at (Lines·shown (shownName (now (file .entry)) [] flow)) (now (out .exit)) r ⌝ }
 {
     let part = loadfile::name(file, b"", flow as usize);
     shown(out, at, part)
@@ -65,7 +65,7 @@ fn run(out: &mut Page, at: usize, has: bool, start: u64, finish: u64) -> usize
 // The runs at the stages that the load has, which are the row's last eight words.
 fn runs(out: &mut Page, at: usize, stages: usize, words: &[u64]) -> usize
     requires { ⌜ (at ≤ room) × (15 ≤ length (now words)) ⌝ }
-    ensures { λ r. ⌜ Put (now (out .entry)) at (Listing·runs stages (rowAt (now (words .entry)) .way)) (now (out .exit)) r ⌝ }
+    ensures { λ r. ⌜ Put (now (out .entry)) at (Lines·runs stages (rowAt (now (words .entry)) .way)) (now (out .exit)) r ⌝ }
 {
     let at = run(out, at, 1 <= stages, words[7], words[8]);
     let at = run(out, at, 2 <= stages, words[9], words[10]);

@@ -1,10 +1,10 @@
--- `listing::lines::run` meets its contract: where the load lacks the stage nothing is put, and otherwise start, dash and finish.
+-- `lines::run` meets its contract: where the load lacks the stage nothing is put, and otherwise start, dash and finish.
 use borrow.Author.Needs.{needs}
 use borrow.Author.Tests.{not-false, not-true}
 use Rattle.line.proofs.Pages.{put-nothing, put-then}
-use Rattle.listing.specs.Listing.{startFinish}
-use Rattle.listing.proofs.lines.run.Statement.{statement}
-use Rattle.listing.proofs.lines.run.Tie as tie
+use Rattle.lines.specs.Lines.{startFinish}
+use Rattle.lines.proofs.run.Statement.{statement}
+use Rattle.lines.proofs.run.Tie as tie
 
 returns : tie.Need-returns
 unfolding startFinish

@@ -1,10 +1,10 @@
--- `listing::lines::row` meets its contract: the name, six words of the row, the runs and the end of the line, one behind the other.
+-- `lines::row` meets its contract: the name, six words of the row, the runs and the end of the line, one behind the other.
 use borrow.Author.Needs.{needs}
 use Rattle.rules.specs.Rows.{rowAt}
 use Rattle.line.proofs.Pages.{put-then}
-use Rattle.listing.specs.Listing.{rowLine}
-use Rattle.listing.proofs.lines.row.Statement.{statement}
-use Rattle.listing.proofs.lines.row.Tie as tie
+use Rattle.lines.specs.Lines.{rowLine}
+use Rattle.lines.proofs.row.Statement.{statement}
+use Rattle.lines.proofs.row.Tie as tie
 
 returns : tie.Need-returns
 unfolding rowLine rowAt

@@ -1,0 +1,2 @@
+pub mod Short
+pub mod Unique
