@@ -15,6 +15,13 @@ pub enum Head {
 // Room for as many entries as blocks can have arrived.
 pub type Storage = [u64; 2048];
 
+// A list with no entry.
+pub fn empty() -> Storage
+    ensures { λ r. ⌜ entriesOf 0 r ≡ [] ⌝ }
+{
+    [0u64; 2048]
+}
+
 // Whether a flow is listed.
 pub fn has(list: &Storage, count: usize, flow: usize) -> bool
     requires { ⌜ count ≤ 1024 ⌝ }

@@ -1,0 +1,66 @@
+-- `mr3::run::first` meets its contract: the tests pick the load that is planned, which is within the limits, and its planner is the
+-- definition's.
+use Prim.Native.Nat.{ℕ, _*_, _≤_, min}
+use mathlib.Core.List.{List}
+use mathlib.Core.Path.{_≡_, refl, sym, ap, _∙_}
+use native.Mathlib.Omega.{arith}
+use borrow.Author.Needs.{needs}
+use lib.ListN.{length}
+use Rattle.load.specs.declared.counts.Counts.{Counts}
+use Rattle.load.specs.declared.refusal.Verdict.{Verdict}
+use Rattle.load.specs.declared.refusal.Verdict.the-variants as verdict
+use Rattle.rules.specs.Calls.{planVerdict}
+use Rattle.rules.specs.Counts.{none}
+use Rattle.rules.specs.Load.{loadOf}
+use Rattle.rules.specs.Plan.{origin}
+use Rattle.rules.proofs.Accepting.{accepted}
+use Rattle.mr3.specs.Going.{taken}
+use Rattle.mr3.proofs.run.first.Statement.{statement}
+use Rattle.mr3.proofs.run.first.Tie as tie
+
+taken-within : (c : Counts) (n : ℕ) (table : List ℕ) (flowRecords rowWords : ℕ) (v : Verdict) → v ≡ planVerdict c n table flowRecords rowWords
+    → (t : Counts) → t ≡ taken c v → (t .blocks ≤ 1024) × (6 * t .blocks ≤ length table) × (t .flows ≤ 64)
+unfolding taken
+taken-within c n table flowRecords rowWords (verdict.Refused r) e t is = rw is (omega arith, omega arith, omega arith)
+taken-within c n table flowRecords rowWords verdict.Accepted e t is =
+    let ok = accepted c n table flowRecords rowWords (sym e) .0 in
+    rw is (ok .blocks, ok .room, ok .flows)
+
+test-requires : tie.Need-test-requires
+test-requires c κs = search needs
+
+taken-requires : tie.Need-taken-requires
+taken-requires c κs = search needs
+
+listed-requires : tie.Need-listed-requires
+listed-requires c κs = search needs
+
+origin-requires : tie.Need-origin-requires
+origin-requires c κs =
+    let within = taken-within _ _ _ _ _ _ (c .before .before .before .test .ensures) _ (c .before .before .taken .ensures) in
+    (within .0, within .1)
+
+add-t14 : tie.Need-add-t14
+add-t14 c =
+    let k = c .before .before .before in
+    let within = taken-within _ _ _ _ _ _ (k .before .before .test .ensures) _ (k .before .taken .ensures) in
+    omega (arith, within .0, within .2, k .listed .ensures)
+
+returns : tie.Need-returns
+unfolding none
+returns c =
+    let k = c .before .before .before in
+    let a = k .before .before .before .before .args in
+    let load = k .before .taken .ensures in
+    record {
+      verdict = k .before .before .test .ensures;
+      state = c .before .origin .ensures ∙ ap (λ (t : Counts). origin (loadOf t (a .blocks .now))) load;
+      summary = refl;
+      at = refl;
+      left = k .listed .ensures ∙ ap (λ (t : Counts). min (a .limit) (t .blocks)) load;
+      empties = ap (λ (t : Counts). t .flows) load;
+      go = refl;
+    }
+
+pub first-spec : {M : Type 1} → statement M
+first-spec = tie.close (tie.spec test-requires taken-requires listed-requires origin-requires add-t14 returns)
