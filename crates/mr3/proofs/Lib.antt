@@ -3,4 +3,6 @@ pub mod Goes
 pub mod PlanCall
 pub mod PlanReads
 pub mod Running
+pub mod Steps
 pub mod Unique
+pub mod Values

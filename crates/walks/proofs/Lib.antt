@@ -1,3 +1,6 @@
+pub mod After
 pub mod Again
 pub mod Arrays
+pub mod Fields
+pub mod Locals
 pub mod Relend

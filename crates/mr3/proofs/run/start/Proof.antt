@@ -103,7 +103,6 @@ add-t22 c =
     let k = c .before .before .before .before .before .before .before .before .before .before .before .before .before .before .before .before .before .before .before in
     omega (arith, k .pre .0 .runs .at, k .pre .0 .runs .few)
 
-
 same-length : tie.Need-same-length
 same-length c = search needs
 
