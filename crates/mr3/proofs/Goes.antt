@@ -9,13 +9,14 @@ use mathlib.Core.Path.{_≡_, refl, sym, ap, _∙_}
 use native.Mathlib.Omega.{arith}
 use borrow.Author.Tests.{eqb-false, eqb-true}
 use lib.Dec.{eqb, ltb}
-use lib.ListN.{drop, getD, length, length-append, length-replicate, length-set, replicate, set, take, take-append-drop}
+use lib.ListN.{drop, getD, length, length-set, replicate, set, take, take-append-drop}
 use lib.Seq.{drop-drop, getD-set-other, getD-set-same}
 use Rattle.load.specs.declared.counts.Counts.{Counts}
 use Rattle.load.specs.declared.refusal.Refusal.{Refusal}
 use Rattle.load.specs.declared.refusal.Verdict.{Verdict}
 use Rattle.load.specs.declared.refusal.Verdict.the-variants as verdict
 use Rattle.load.specs.Dominant.{dominantTime}
+use Rattle.load.proofs.Cases.{cases}
 use Rattle.load.proofs.Parts.{drop-over, length-over, over, take-over}
 use Rattle.rules.specs.declared.answer.Planned.{Planned}
 use Rattle.rules.specs.declared.record.FlowRecord.{FlowRecord}
@@ -32,7 +33,6 @@ use Rattle.rules.proofs.Blocks.{dominant-within}
 use Rattle.rules.proofs.Bounds.{origin-within, step-within}
 use Rattle.rules.proofs.Whole.{plan-length}
 use Rattle.mr3.specs.declared.run.Going.{Going}
-use Rattle.mr3.specs.declared.run.Noted.{Noted}
 use Rattle.mr3.specs.declared.run.Running.{Running}
 use Rattle.mr3.specs.Changes.{adds, changed, empties, Fits, noted}
 use Rattle.mr3.specs.Going.{answered, Begins, Does, Empties, more, Moves, reached, Ready, Starts, taken}
@@ -60,39 +60,33 @@ zeros (suc m) rest zero h = refl
 zeros (suc m) rest (suc i) h = zeros m rest i (omega arith)
 
 -- ---- records that have room for so many rows more
-record Room (flows left : ℕ) (fs : List FlowRecord) : Type 0 where
-  there : flows ≤ length fs
-  each : (f : ℕ) → f < flows
-      → (getD fs f unlisted .blocks + left ≤ 1024) × (getD fs f unlisted .turns + left ≤ 1024) × (getD fs f unlisted .time + 10_000_000 * left ≤ 10_240_000_000)
+abbrev Room : ℕ → ℕ → List FlowRecord → Type 0
+Room flows left fs =
+    (f : ℕ) → f < flows → (getD fs f unlisted .blocks + left ≤ 1024) × (getD fs f unlisted .turns + left ≤ 1024) × (getD fs f unlisted .time + 10_000_000 * left ≤ 10_240_000_000)
 
 emptied-room : (flows left : ℕ) (fs : List FlowRecord) → left ≤ 1024 → Room flows left (emptied flows fs)
 unfolding unlisted
-emptied-room flows left fs few = record {
-  there = rw (length-append, length-replicate) (omega arith);
-  each = λ f h. rw (zeros flows (drop flows fs) f h) (omega arith, omega arith, omega arith);
-}
+emptied-room flows left fs few f h = rw (zeros flows (drop flows fs) f h) (omega arith, omega arith, omega arith)
 
 module _ (table : List ℕ) (flows left before : ℕ) (fs : List FlowRecord) (r : Row)
     (below : r .flow < flows) (short : dominantTime (blockAt table (r .block)) ≤ 10_000_000) (w : Room flows left fs) where
   row-fits : Fits (getD fs (r .flow) unlisted) (adds table before r)
   unfolding adds
   row-fits _ =
-      let old = w .each (r .flow) below in
+      let old = w (r .flow) below in
       (omega (arith, old .0), omega (arith, old .1, one-most (ltb before (r .turn))), omega (arith, old .2))
 
-  row-room-left : 0 < left → Room flows (left - 1) (recorded table before fs r)
+  row-added : 0 < left → flows ≤ length fs → Room flows (left - 1) (recorded table before fs r)
   unfolding recorded added
-  row-room-left more-left = record { there = rw length-set (w .there); each = λ f h. at f h (eqb f (r .flow)) refl } where
-    at : (f : ℕ) → f < flows → (b : Bool) → eqb f (r .flow) ≡ b
-        → (getD (recorded table before fs r) f unlisted .blocks + (left - 1) ≤ 1024) × (getD (recorded table before fs r) f unlisted .turns + (left - 1) ≤ 1024)
-        × (getD (recorded table before fs r) f unlisted .time + 10_000_000 * (left - 1) ≤ 10_240_000_000)
-    at f h true e =
-        let old = w .each (r .flow) below in
-        rw (eqb-true f (r .flow) e, getD-set-same fs (r .flow) _ unlisted (omega (arith, w .there)))
-        (omega (arith, old .0), omega (arith, old .1, one-most (ltb before (r .turn))), omega (arith, old .2))
-    at f h false e =
-        let old = w .each f h in
-        rw (getD-set-other fs (r .flow) f _ unlisted (eqb-false f (r .flow) e)) (omega (arith, old .0), omega (arith, old .1), omega (arith, old .2))
+  row-added to-come there f h =
+      cases (eqb f (r .flow))
+      (λ e.
+      let old = w (r .flow) below in
+      rw (eqb-true f (r .flow) e, getD-set-same fs (r .flow) _ unlisted (omega arith))
+      (omega (arith, old .0), omega (arith, old .1, one-most (ltb before (r .turn))), omega (arith, old .2)))
+      (λ e.
+      let old = w f h in
+      rw (getD-set-other fs (r .flow) f _ unlisted (eqb-false f (r .flow) e)) (omega (arith, old .0), omega (arith, old .1), omega (arith, old .2)))
 
 -- ---- the row table, with rows written from a place on
 abbrev written : ℕ → List ℕ → List Row → List ℕ
@@ -121,7 +115,7 @@ module _ (c : Counts) (n : ℕ) (table : List ℕ) (fs₀ : List FlowRecord) (ws
   record Live (g : Going) (s : State) (fs : List FlowRecord) (ws : List ℕ) : Type 0 where
     ready : Ready L g s (length ws)
     records-left : g .empties ≤ c .flows
-    records-there : c .flows ≤ length fs
+    records-there : c .flows ≤ length fs₀
     records-room : Room (c .flows) (g .running .left) (emptied (g .empties) fs)
 
   pub record Goes (m : ℕ) (g : Going) (s : State) (fs : List FlowRecord) (ws : List ℕ) : Type 0 where
@@ -130,9 +124,9 @@ module _ (c : Counts) (n : ℕ) (table : List ℕ) (fs₀ : List FlowRecord) (ws
     verdict-is : g .verdict ≡ said
     pub long-flows : length fs ≡ length fs₀
     pub long-rows : length ws ≡ length ws₀
-    flows-end : records table (g .running .summary .turns) (emptied (g .empties) fs) (run L (g .running .left) s) ≡ flowsAfter c n table fs₀ said
-    rows-end : written (g .running .at) ws (run L (g .running .left) s) ≡ rowsAfter c n table ws₀ said
-    answer-end : answered said (summary (c .stages) (g .running .summary) (run L (g .running .left) s)) ≡ answerOf c n table said
+    ends :
+        let rest = run L (g .running .left) s in
+        Plans c n table fs₀ ws₀ (answered said (summary (c .stages) (g .running .summary) rest)) (records table (g .running .summary .turns) (emptied (g .empties) fs) rest) (written (g .running .at) ws rest)
     live : 0 < m → Live g s fs ws
 
   -- ---- before the first start
@@ -140,26 +134,27 @@ module _ (c : Counts) (n : ℕ) (table : List ℕ) (fs₀ : List FlowRecord) (ws
     abbrev s₀ : State
     s₀ = reached g list (replicate 64 0) (replicate 64 0)
 
-    first-refused : (r : Refusal) → said ≡ verdict.Refused r → Goes (g .empties + g .running .left) g s₀ fs₀ ws₀
+    abbrev m₀ : ℕ
+    m₀ = g .empties + g .running .left
+
+    -- what is left to show
+    begun : Plans c n table fs₀ ws₀ (answered said (summary (c .stages) (g .running .summary) (run L (g .running .left) s₀)))
+        (records table (g .running .summary .turns) (emptied (g .empties) fs₀) (run L (g .running .left) s₀)) (written (g .running .at) ws₀ (run L (g .running .left) s₀))
+        → (0 < m₀ → Live g s₀ fs₀ ws₀) → Goes m₀ g s₀ fs₀ ws₀
+    begun ends live = record { many = refl; go = b .go; verdict-is = b .verdict; long-flows = refl; long-rows = refl; ends = ends; live = live }
+
+    first-refused : (r : Refusal) → said ≡ verdict.Refused r → Goes m₀ g s₀ fs₀ ws₀
     unfolding taken flowsAfter rowsAfter answerOf answered records run
     first-refused r e =
         let is : g .verdict ≡ verdict.Refused r = b .verdict ∙ e in
         let no-flow : g .empties ≡ 0 = b .empties ∙ ap (λ (v : Verdict). taken c v .flows) is in
         let no-block : taken c (g .verdict) .blocks ≡ 0 = ap (λ (v : Verdict). taken c v .blocks) is in
         let no-start : g .running .left ≡ 0 = omega (arith, b .left, no-block) in
-        record {
-          many = refl;
-          go = b .go;
-          verdict-is = b .verdict;
-          long-flows = refl;
-          long-rows = refl;
-          flows-end = rw (no-flow, no-start, e) refl;
-          rows-end = rw (no-start, e) (written-none (g .running .at) ws₀);
-          answer-end = rw (no-start, e) refl;
-          live = λ h. absurd (omega (arith, no-flow, no-start));
-        }
+        begun
+        (rw (no-flow, no-start) (record { answers = rw e refl; flows-left = rw e refl; rows-left = rw e (written-none (g .running .at) ws₀) }))
+        (λ h. absurd (omega (arith, no-flow, no-start)))
 
-    first-accepted : said ≡ verdict.Accepted → Goes (g .empties + g .running .left) g s₀ fs₀ ws₀
+    first-accepted : said ≡ verdict.Accepted → Goes m₀ g s₀ fs₀ ws₀
     unfolding taken flowsAfter rowsAfter answerOf answered plan counts.none
     first-accepted e =
         let is : g .verdict ≡ verdict.Accepted = b .verdict ∙ e in
@@ -167,41 +162,33 @@ module _ (c : Counts) (n : ℕ) (table : List ℕ) (fs₀ : List FlowRecord) (ws
         let left : g .running .left ≡ min n (c .blocks) = b .left ∙ ap (λ (v : Verdict). min n (taken c v .blocks)) is in
         let state : s₀ ≡ origin L = b .state ∙ ap (λ (v : Verdict). origin (loadOf (taken c v) table)) is in
         let ok = accepted c n table (length fs₀) (length ws₀) e in
-        record {
-          many = refl;
-          go = b .go;
-          verdict-is = b .verdict;
-          long-flows = refl;
-          long-rows = refl;
-          flows-end = rw (flows, left, state, b .summary, e) refl;
-          rows-end = rw (left, state, b .at, e) refl;
-          answer-end = rw (left, state, b .summary, e) refl;
-          live = λ h. record {
-            ready = record {
-              accepted = ok .0;
-              to-note = h;
-              flows = omega (arith, flows, ok .0 .flows);
-              runs = record {
-                starts = 0;
-                few = omega (arith, left, ok .0 .blocks);
-                within = rw state (origin-within L (ok .0));
-                to-come = rw (left, state) (plan-length c n table (length fs₀) (length ws₀) e);
-                at = omega (arith, b .at);
-                room = omega (arith, b .at, left, ok .2);
-                few-blocks = rw (b .summary) (omega arith);
-                few-held = rw (b .summary) (omega arith);
-                few-ticks = rw (b .summary) (omega arith);
-              };
+        begun
+        (rw (flows, left, state, b .summary, b .at) (record { answers = rw e refl; flows-left = rw e refl; rows-left = rw e refl }))
+        (λ h. record {
+          ready = record {
+            accepted = ok .0;
+            to-note = h;
+            flows = omega (arith, flows, ok .0 .flows);
+            runs = record {
+              starts = 0;
+              few = omega (arith, left, ok .0 .blocks);
+              within = rw state (origin-within L (ok .0));
+              to-come = rw (left, state) (plan-length c n table (length fs₀) (length ws₀) e);
+              at = omega (arith, b .at);
+              room = omega (arith, b .at, left, ok .2);
+              few-blocks = rw (b .summary) (omega arith);
+              few-held = rw (b .summary) (omega arith);
+              few-ticks = rw (b .summary) (omega arith);
             };
-            records-left = omega (arith, flows);
-            records-there = ok .1;
-            records-room = rw flows (emptied-room (c .flows) (g .running .left) fs₀ (omega (arith, left, ok .0 .blocks)));
           };
-        }
+          records-left = omega (arith, flows);
+          records-there = ok .1;
+          records-room = rw flows (emptied-room (c .flows) (g .running .left) fs₀ (omega (arith, left, ok .0 .blocks)));
+        })
 
-    pub goes-first : Goes (g .empties + g .running .left) g s₀ fs₀ ws₀
+    pub goes-first : Goes m₀ g s₀ fs₀ ws₀
     goes-first = go said refl where
-      go : (v : Verdict) → said ≡ v → Goes (g .empties + g .running .left) g s₀ fs₀ ws₀
+      go : (v : Verdict) → said ≡ v → Goes m₀ g s₀ fs₀ ws₀
       go (verdict.Refused r) e = first-refused r e
       go verdict.Accepted e = first-accepted e
 
@@ -210,21 +197,24 @@ module _ (c : Counts) (n : ℕ) (table : List ℕ) (fs₀ : List FlowRecord) (ws
     abbrev lives : Live g s fs ws
     lives = p .live (omega arith)
 
+    abbrev ready : Ready L g s (length ws)
+    ready = lives .ready
+
     pub goes-ready : Ready L g s (length ws)
-    goes-ready = lives .ready
+    goes-ready = ready
 
-    module _ (d : Noted) (s′ : State) (ws′ : List ℕ) (mv : Moves L g s ws d s′ ws′) where
+    module _ (g′ : Going) (s′ : State) (ws′ : List ℕ) (mv : Moves L g s ws g′ s′ ws′) where
       abbrev On : Type 0
-      On = (d .change .flow < length fs) × Fits (getD fs (d .change .flow) unlisted) (d .change) × Goes i (d .then) s′ (noted fs (d .change)) ws′
+      On = (g′ .change .flow < length fs) × Fits (getD fs (g′ .change .flow) unlisted) (g′ .change) × Goes i g′ s′ (noted fs (g′ .change)) ws′
 
-      on-emptied : (e : ℕ) → g .empties ≡ suc e → Empties L g s ws d s′ ws′ e → On
+      on-emptied : (e : ℕ) → g .empties ≡ suc e → Empties L g s ws g′ s′ ws′ e → On
       unfolding empties changed
       on-emptied e at m =
-          let here : e < length fs = omega (arith, lives .records-left, lives .records-there, at) in
-          let left : d .then .running .left ≡ g .running .left = ap (λ (r : Running). r .left) (m .running) in
-          let many : i ≡ d .then .empties + d .then .running .left = omega (arith, p .many, at, m .empties, left) in
-          let was = rw at at (p .flows-end) in
-          let room-was = rw at at (lives .records-room) in
+          let here : e < length fs = omega (arith, lives .records-left, lives .records-there, p .long-flows, at) in
+          let left : g′ .running .left ≡ g .running .left = ap (λ (r : Running). r .left) (m .running) in
+          let many : i ≡ g′ .empties + g′ .running .left = omega (arith, p .many, at, m .empties, left) in
+          let ends = rw at at (p .ends) in
+          let room = rw at at (lives .records-room) in
           rw (m .change) (
             here,
             (λ e. absurd (true≢false e)),
@@ -234,68 +224,61 @@ module _ (c : Counts) (n : ℕ) (table : List ℕ) (fs₀ : List FlowRecord) (ws
               verdict-is = mv .verdict ∙ p .verdict-is;
               long-flows = length-set fs e unlisted ∙ p .long-flows;
               long-rows = ap length (m .words) ∙ p .long-rows;
-              flows-end = rw (m .empties, m .running, m .state, emptied-more e fs here) was;
-              rows-end = rw (m .running, m .state, m .words) (p .rows-end);
-              answer-end = rw (m .running, m .state) (p .answer-end);
+              ends = rw (m .empties, m .running, m .state, m .words, emptied-more e fs here) ends;
               live = λ h. record {
                 ready = record {
-                  accepted = lives .ready .accepted;
+                  accepted = ready .accepted;
                   to-note = omega (arith, h, many);
-                  flows = omega (arith, m .empties, at, lives .ready .flows);
-                  runs = rw (m .running, m .state, m .words) (lives .ready .runs);
+                  flows = omega (arith, m .empties, at, ready .flows);
+                  runs = rw (m .running, m .state, m .words) (ready .runs);
                 };
                 records-left = omega (arith, m .empties, at, lives .records-left);
-                records-there = rw length-set (lives .records-there);
-                records-room = rw (m .empties, m .running, emptied-more e fs here) room-was;
+                records-there = lives .records-there;
+                records-room = rw (m .empties, m .running, emptied-more e fs here) room;
               };
             },
           )
 
-      on-started : g .empties ≡ 0 → Starts L g s ws d s′ ws′ → On
+      on-started : g .empties ≡ 0 → Starts L g s ws g′ s′ ws′ → On
       unfolding adds changed recorded records summary counted over rowWords wayWords
       on-started at m =
-          let ready = lives .ready in
           let row = m .start .row in
           let turn = g .running .summary .turns in
           let within = bounds L g s (length ws) ready at (m .start) (m .is) in
-          let next = next-row L g s (length ws) ready at (m .start) (m .is) in
-          let room = row-room L g s (length ws) ready at in
-          let many : i ≡ d .then .empties + d .then .running .left = omega (arith, p .many, at, m .empties, m .left) in
-          let long : length ws′ ≡ length ws = ap length (m .words) ∙ length-over ws (g .running .at) (rowWords row) 15 refl room in
+          let fits = row-room L g s (length ws) ready at in
+          let many : i ≡ g′ .empties + g′ .running .left = omega (arith, p .many, at, m .empties, m .left) in
+          let long : length ws′ ≡ length ws = ap length (m .words) ∙ length-over ws (g .running .at) (rowWords row) 15 refl fits in
           let short = dominant-within (ready .accepted .each (row .block) (within .1 .block)) in
-          let room-was = rw at at (lives .records-room) in
-          let flows-were = rw (at, next) at (p .flows-end) in
-          let rows-were = rw next at (p .rows-end) in
-          let answer-was = rw next at (p .answer-end) in
+          let there : c .flows ≤ length fs = omega (arith, lives .records-there, p .long-flows) in
+          let ends = rw (at, next-row L g s (length ws) ready at (m .start) (m .is)) at (p .ends) in
+          let room = rw at at (lives .records-room) in
           rw (m .change) (
-            omega (arith, within .1 .flow, lives .records-there),
-            row-fits table (c .flows) (g .running .left) turn fs row (within .1 .flow) short room-was,
+            omega (arith, within .1 .flow, there),
+            row-fits table (c .flows) (g .running .left) turn fs row (within .1 .flow) short room,
             record {
               many = many;
               go = mv .go ∙ ap (ltb 0) (sym many);
               verdict-is = mv .verdict ∙ p .verdict-is;
               long-flows = length-set fs (row .flow) _ ∙ p .long-flows;
               long-rows = long ∙ p .long-rows;
-              flows-end = rw (m .empties, m .summary, m .left, m .state) flows-were;
-              rows-end = rw (m .at, m .left, m .state, m .words) (written-more (g .running .at) ws row _ room ∙ rows-were);
-              answer-end = rw (m .summary, m .left, m .state) answer-was;
+              ends = rw (m .empties, m .summary, m .left, m .state, m .at, m .words, written-more (g .running .at) ws row (run L (g .running .left - 1) (m .start .then)) fits) ends;
               live = λ h. record {
                 ready = record {
                   accepted = ready .accepted;
                   to-note = omega (arith, h, many);
                   flows = omega (arith, m .empties);
-                  runs = rw (m .state, long) (runs-on L g s (length ws) ready at (m .start) (m .is) (d .then .running) (m .summary) (m .at) (m .left));
+                  runs = rw (m .state, long) (runs-on L g s (length ws) ready at (m .start) (m .is) (g′ .running) (m .summary) (m .at) (m .left));
                 };
                 records-left = omega (arith, m .empties);
-                records-there = rw length-set (lives .records-there);
-                records-room = rw (m .empties, m .left) (row-room-left table (c .flows) (g .running .left) turn fs row (within .1 .flow) short room-was (to-start L g s (length ws) ready at));
+                records-there = lives .records-there;
+                records-room = rw (m .empties, m .left) (row-added table (c .flows) (g .running .left) turn fs row (within .1 .flow) short room (to-start L g s (length ws) ready at) there);
               };
             },
           )
 
       pub goes-on : On
       goes-on = go (g .empties) refl (mv .does) where
-        go : (e : ℕ) → g .empties ≡ e → Does L g s ws d s′ ws′ e → On
+        go : (e : ℕ) → g .empties ≡ e → Does L g s ws g′ s′ ws′ e → On
         go zero at m = on-started at m
         go (suc e) at m = on-emptied e at m
 
@@ -306,11 +289,4 @@ module _ (c : Counts) (n : ℕ) (table : List ℕ) (fs₀ : List FlowRecord) (ws
   goes-ends g s fs ws p =
       let no-flow : g .empties ≡ 0 = omega (arith, p .many) in
       let no-start : g .running .left ≡ 0 = omega (arith, p .many) in
-      let flows-are = rw (no-flow, no-start) at (p .flows-end) in
-      let rows-are = rw no-start at (p .rows-end) in
-      let answer-is = rw no-start at (p .answer-end) in
-      record {
-        answers = ap (λ (v : Verdict). answered v (g .running .summary)) (p .verdict-is) ∙ answer-is;
-        flows-left = flows-are;
-        rows-left = sym (written-none (g .running .at) ws) ∙ rows-are;
-      }
+      rw (p .verdict-is, ← written-none (g .running .at) ws) (rw (no-flow, no-start) at (p .ends))

@@ -42,16 +42,13 @@ use Rattle.decide.specs.Storage.{entriesOf}
 use Rattle.decide.proofs.list.empty as empty
 use Rattle.mr3.specs.declared.record.Change.{Change}
 use Rattle.mr3.specs.declared.run.Going.{Going}
-use Rattle.mr3.specs.declared.run.Noted.{Noted}
 use Rattle.mr3.specs.Changes.{Fits, noted}
 use Rattle.mr3.specs.Going.{answered, Begins, Moves, reached, Ready}
 use Rattle.mr3.proofs.record.Change as U
 use Rattle.mr3.proofs.record.Change.Laws as U′
 use Rattle.mr3.proofs.run.Going as G
 use Rattle.mr3.proofs.run.Going.Laws as G′
-use Rattle.mr3.proofs.run.Noted as D
-use Rattle.mr3.proofs.run.Noted.Laws as D′
-use Rattle.mr3.proofs.Values.{goingVal, IsGoing, notedVal, IsNoted}
+use Rattle.mr3.proofs.Values.{goingVal, IsGoing}
 use Rattle.mr3.proofs.record.note as note
 use Rattle.mr3.proofs.run.answer as answer
 use Rattle.mr3.proofs.run.first as first
@@ -251,38 +248,39 @@ module _ {M : Type 1} (𝓤 : URA M) (H : Heap 𝓤) (A : Atoms 𝓤) (W : Given
           qed W all-lent ∵ move ! (1 ∷ []) $ use1 W (‵ ownₓ ⊛ ‵ ownₓ) (shr-slice-copy 𝓤 H A W (named 0) κ u32 .twice x (sₓ ∷ [])) $ split ! $
           move ! (2 ∷ 0 ∷ 3 ∷ 4 ∷ 5 ∷ 6 ∷ 7 ∷ 8 ∷ 9 ∷ 10 ∷ []) $ group ! 10 $ use1 W (raw (Next 𝓤 H A mem run .pre to-next)) (next-pre c-is g-is ready) $ done !
 
-      -- what is to be noted, and what the arrays and the rows hold then
+      -- where the call is then, and what the arrays and the rows hold
       pub record Then : Type 0 where
-        pub said : Noted
+        pub g′ : Going
         pub list′ : List ℕ
         pub from′ : List ℕ
         pub gate′ : List ℕ
         pub rows′ : List ℕ
 
+      abbrev moves : Then → Type 0
+      moves y = Moves (loadOf c (x .now)) g (reached g list from gate) rows (y .g′) (reached (y .g′) (y .list′) (y .from′) (y .gate′)) (y .rows′)
+
       abbrev next-back : Val → Then → Item 𝓤
-      next-back v y =
-          given ((v ≡ notedVal (y .said)) × IsNoted (y .said) × (length (y .rows′) ≡ length rows) × Moves (loadOf c (x .now)) g (reached g list from gate) rows (y .said) (reached (y .said .then) (y .list′) (y .from′) (y .gate′)) (y .rows′))
+      next-back v y = given ((v ≡ goingVal (y .g′)) × IsGoing (y .g′) × (length (y .rows′) ≡ length rows) × moves y)
           (‵ (flft κ q) ⊛ (‵ (flft (ν₁ ∷ []) fullShare) ⊛ (‵ (fres δ₁ (Listed .coded .code (y .list′))) ⊛ (‵ (flft (ν₂ ∷ []) fullShare) ⊛ (‵ (fres δ₂ (From .coded .code (y .from′))) ⊛ (‵ (flft (ν₃ ∷ []) fullShare) ⊛ (‵ (fres δ₃ (Gate .coded .code (y .gate′)))
           ⊛ (‵ (flft (ν ∷ []) fullShare) ⊛ ‵ (finally u64 δ (y .rows′))))))))))
 
       abbrev pub after-next : Val → Item 𝓤
       after-next v = later (some (next-back v))
 
-      abbrev told : Noted → Lasts next.ended ends next-args → Type 0
-      told r ws = Moves (loadOf c (x .now)) g (reached g list from gate) rows r (reached (r .then) (ws .1 .1 .1 .0) (ws .1 .1 .1 .1 .0) (ws .1 .1 .1 .1 .1 .0)) (ws .1 .1 .1 .1 .1 .1 .0)
+      abbrev then : Going → Lasts next.ended ends next-args → Then
+      then r ws = record { g′ = r; list′ = ws .1 .1 .1 .0; from′ = ws .1 .1 .1 .1 .0; gate′ = ws .1 .1 .1 .1 .1 .0; rows′ = ws .1 .1 .1 .1 .1 .1 .0 }
 
       pub gives-next : (v : Val) → ent 𝓤 (Next 𝓤 H A mem run .post to-next v) (mean 𝓤 H A (after-next v))
-      unfolding notedVal
+      unfolding goingVal
       gives-next v =
           qed W (raw (Next 𝓤 H A mem run .post to-next v) ∷ []) ∵ updating ! $
-          use1 W (later (some (λ (r : Noted). ((‵ (flft κ q) ⊛ (‵ (flft (ν₁ ∷ []) fullShare) ⊛ (‵ (flft (ν₂ ∷ []) fullShare) ⊛ (‵ (flft (ν₃ ∷ []) fullShare) ⊛ (‵ (flft (ν ∷ []) fullShare) ⊛ ‵ ftrue))))) ⊛ ‵ (D.the-row .own r (v ∷ [])))
-          ⊛ some (λ (ws : Lasts next.ended ends next-args). ‵ (lasts next.ended ends next-args ws) ⊛ raw (fact 𝓤 (told r ws)))))) (id⊢ 𝓤 _) $ await ! tt $ pick ! (λ r.
-          split ! $ move ! (1 ∷ []) $ pick ! (λ ws. split ! $ move ! (1 ∷ []) $ heard ! (told r ws) (λ e.
+          use1 W (later (some (λ (r : Going). ((‵ (flft κ q) ⊛ (‵ (flft (ν₁ ∷ []) fullShare) ⊛ (‵ (flft (ν₂ ∷ []) fullShare) ⊛ (‵ (flft (ν₃ ∷ []) fullShare) ⊛ (‵ (flft (ν ∷ []) fullShare) ⊛ ‵ ftrue))))) ⊛ ‵ (G.the-row .own r (v ∷ [])))
+          ⊛ some (λ (ws : Lasts next.ended ends next-args). ‵ (lasts next.ended ends next-args ws) ⊛ raw (fact 𝓤 (moves (then r ws))))))) (id⊢ 𝓤 _) $ await ! tt $ pick ! (λ r.
+          split ! $ move ! (1 ∷ []) $ pick ! (λ ws. split ! $ move ! (1 ∷ []) $ heard ! (moves (then r ws)) (λ e.
           fsplit ! $ drop ! $ fsplit ! $ drop ! $ fsplit ! $ drop ! $ fsplit ! $ move ! (1 ∷ []) $ fsplit ! $ move ! (1 ∷ []) $ fsplit ! $ move ! (1 ∷ []) $ fsplit ! $ fsplit ! $
-          -- [what is said last of the rows; their length; …; the gates; the places; the list; the tokens and the result]
+          -- [what is said last of the rows; their length; …; of the gates; of the places; of the list; the tokens and the result]
           move ! (1 ∷ []) $ feqL ! (λ long. move ! (5 ∷ []) $ split ! $ split ! $ move ! (1 ∷ []) $ split ! $ move ! (1 ∷ []) $ split ! $ move ! (1 ∷ []) $ split ! $ move ! (1 ∷ []) $ split ! $
           -- [ν's token; true; ν₃'s; ν₂'s; ν₁'s; κ's; the result; the rows; …; the gates; the places; the list]
-          move ! (6 ∷ []) $ facts ! D.the-row (Is D.the-row) (shows 𝓤 H A D.the-row) r (v ∷ []) (λ is.
-          let v-is : v ∷ [] ≡ notedVal r ∷ [] = D′.lowers .val-is r _ is in
-          at-once ! $ show ! (λ (y : Then). mean 𝓤 H A (next-back v y)) (record { said = r; list′ = ws .1 .1 .1 .0; from′ = ws .1 .1 .1 .1 .0; gate′ = ws .1 .1 .1 .1 .1 .0; rows′ = ws .1 .1 .1 .1 .1 .1 .0 }) $
-          check ! (ap only v-is, subst (λ (us : List Val). Is D.the-row r us) v-is is, long, e) $ keep ! (5 ∷ 4 ∷ 10 ∷ 3 ∷ 9 ∷ 2 ∷ 8 ∷ 0 ∷ 6 ∷ []) $ done !)))))
+          move ! (6 ∷ []) $ facts ! G.the-row (Is G.the-row) (shows 𝓤 H A G.the-row) r (v ∷ []) (λ is.
+          let v-is : v ∷ [] ≡ goingVal r ∷ [] = G′.lowers .val-is r _ is in
+          at-once ! $ show ! (λ (y : Then). mean 𝓤 H A (next-back v y)) (then r ws) $ check ! (ap only v-is, subst (λ (us : List Val). Is G.the-row r us) v-is is, long, e) $ keep ! (5 ∷ 4 ∷ 10 ∷ 3 ∷ 9 ∷ 2 ∷ 8 ∷ 0 ∷ 6 ∷ []) $ done !)))))

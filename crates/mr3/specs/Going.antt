@@ -21,8 +21,8 @@ use Rattle.rules.specs.Rows.{rowWords}
 use Rattle.rules.specs.Within.{Accepted, StateWithin}
 use Rattle.decide.specs.Storage.{stateOf}
 use Rattle.mr3.specs.declared.run.Going.{Going}
-use Rattle.mr3.specs.declared.run.Noted.{Noted}
 use Rattle.mr3.specs.declared.run.Running.{Running}
+use Rattle.mr3.specs.Changes as changes
 use Rattle.mr3.specs.Changes.{adds, empties}
 
 -- the definition's state that the planner and its three arrays stand for
@@ -47,6 +47,7 @@ pub record Begins (c : Counts) (n : ℕ) (table : List ℕ) (flowRecords rowWord
   pub left : g .running .left ≡ min n (taken c (g .verdict) .blocks)
   pub empties : g .empties ≡ taken c (g .verdict) .flows
   pub go : g .go ≡ more g
+  pub change : g .change ≡ changes.empties 0
 
 -- After so many starts: there are as many to come as are left, and words for their rows, and the sums fit 64 bits.
 pub record Runs (L : Load) (r : Running) (s : State) (rowWords : ℕ) : Type 0 where
@@ -67,12 +68,12 @@ pub record Ready (L : Load) (g : Going) (s : State) (rowWords : ℕ) : Type 0 wh
   pub flows : g .empties ≤ 64
   pub runs : Runs L (g .running) s rowWords
 
-module _ (L : Load) (g : Going) (s : State) (rows : List ℕ) (n : Noted) (sThen : State) (rowsThen : List ℕ) where
+module _ (L : Load) (g : Going) (s : State) (rows : List ℕ) (gThen : Going) (sThen : State) (rowsThen : List ℕ) where
   -- the record of flow e is emptied, and nothing else moves
   pub record Empties (e : ℕ) : Type 0 where
-    pub change : n .change ≡ empties e
-    pub empties : n .then .empties ≡ e
-    pub running : n .then .running ≡ g .running
+    pub change : gThen .change ≡ empties e
+    pub empties : gThen .empties ≡ e
+    pub running : gThen .running ≡ g .running
     pub state : sThen ≡ s
     pub words : rowsThen ≡ rows
 
@@ -80,11 +81,11 @@ module _ (L : Load) (g : Going) (s : State) (rows : List ℕ) (n : Noted) (sThen
   pub record Starts : Type 0 where
     pub start : Started
     pub is : step L s ≡ some start
-    pub change : n .change ≡ adds (L .table) (g .running .summary .turns) (start .row)
-    pub empties : n .then .empties ≡ 0
-    pub summary : n .then .running .summary ≡ counted (L .counts .stages) (g .running .summary) (start .row)
-    pub at : n .then .running .at ≡ g .running .at + 15
-    pub left : n .then .running .left ≡ g .running .left - 1
+    pub change : gThen .change ≡ adds (L .table) (g .running .summary .turns) (start .row)
+    pub empties : gThen .empties ≡ 0
+    pub summary : gThen .running .summary ≡ counted (L .counts .stages) (g .running .summary) (start .row)
+    pub at : gThen .running .at ≡ g .running .at + 15
+    pub left : gThen .running .left ≡ g .running .left - 1
     pub state : sThen ≡ start .then
     pub words : rowsThen ≡ take (g .running .at) rows ++ rowWords (start .row) ++ drop (g .running .at + 15) rows
 
@@ -95,8 +96,8 @@ module _ (L : Load) (g : Going) (s : State) (rows : List ℕ) (n : Noted) (sThen
   -- the records are emptied from the last to the first, and then the starts are made
   pub record Moves : Type 0 where
     pub does : Does (g .empties)
-    pub verdict : n .then .verdict ≡ g .verdict
-    pub go : n .then .go ≡ more (n .then)
+    pub verdict : gThen .verdict ≡ g .verdict
+    pub go : gThen .go ≡ more gThen
 
 -- the answer
 unfoldable pub answered : Verdict → Summary → Planned

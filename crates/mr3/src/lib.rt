@@ -26,9 +26,8 @@ pub fn plan(
     let mut gate = [0u64; 64];
     let mut going = run::first(counts, limit, blocks, flows.len(), rows.len(), &mut list);
     while going.go {
-        let noted = run::next(counts, blocks, going, &mut list, &mut from, &mut gate, rows);
-        record::note(flows, noted.change);
-        going = noted.then;
+        going = run::next(counts, blocks, going, &mut list, &mut from, &mut gate, rows);
+        record::note(flows, going.change);
     }
     run::answer(going)
 }

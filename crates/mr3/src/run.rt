@@ -28,18 +28,14 @@ pub struct Running {
     pub left: usize,
 }
 
-// Where a plan call is: how many records are to be emptied before the first start, and whether anything is to be noted yet.
+// Where a plan call is: what is to be noted, whether anything is to be noted after it, and how many records are to be emptied yet
+// before the first start.
 pub struct Going {
     pub go: bool,
+    pub change: Change,
     pub verdict: Verdict,
     pub empties: usize,
     pub running: Running,
-}
-
-// What is to be noted, and where the call is then.
-pub struct Noted {
-    pub change: Change,
-    pub then: Going,
 }
 
 // The counts of the load that is planned: after a refusal, of one with no flow and no block.
@@ -86,6 +82,7 @@ pub fn first(
     };
     Going {
         go: 0 < load.flows + left,
+        change: record::empties(0),
         verdict,
         empties: load.flows,
         running,
@@ -101,37 +98,32 @@ fn start(
     from: &mut [usize; 64],
     gate: &mut [u64; 64],
     rows: &mut [u64],
-) -> Noted
+) -> Going
     requires { ⌜ Ready (loadOf counts (now blocks)) going (reached going (now list) (now from) (now gate)) (length (now rows)) ⌝ }
     requires { ⌜ going .empties ≡ 0 ⌝ }
-    ensures { λ r. ⌜ Moves (loadOf counts (now (blocks .entry))) going (reached going (now (list .entry)) (now (from .entry)) (now (gate .entry))) (now (rows .entry)) r (reached (r .then) (now (list .exit)) (now (from .exit)) (now (gate .exit))) (now (rows .exit)) ⌝ }
+    ensures { λ r. ⌜ Moves (loadOf counts (now (blocks .entry))) going (reached going (now (list .entry)) (now (from .entry)) (now (gate .entry))) (now (rows .entry)) r (reached r (now (list .exit)) (now (from .exit)) (now (gate .exit))) (now (rows .exit)) ⌝ }
 {
     let running = going.running;
     let planner = running.planner;
     let Next::Start(row, then) = step::step(counts, blocks, planner, list, from, gate) else {
         // There is a start for each one that is left.
-        return Noted {
-            change: record::empties(0),
-            then: going,
-        };
+        return going;
     };
     let at = running.at;
     row::write(&mut rows[at..], row);
     let summary = running.summary;
     let left = running.left - 1;
     let verdict = going.verdict;
-    Noted {
+    Going {
+        go: 0 < left,
         change: record::adds(blocks, summary.turns, row),
-        then: Going {
-            go: 0 < left,
-            verdict,
-            empties: 0,
-            running: Running {
-                planner: then,
-                summary: tally::counted(summary, counts.stages, row),
-                at: at + 15,
-                left,
-            },
+        verdict,
+        empties: 0,
+        running: Running {
+            planner: then,
+            summary: tally::counted(summary, counts.stages, row),
+            at: at + 15,
+            left,
         },
     }
 }
@@ -145,9 +137,9 @@ pub fn next(
     from: &mut [usize; 64],
     gate: &mut [u64; 64],
     rows: &mut [u64],
-) -> Noted
+) -> Going
     requires { ⌜ Ready (loadOf counts (now blocks)) going (reached going (now list) (now from) (now gate)) (length (now rows)) ⌝ }
-    ensures { λ r. ⌜ Moves (loadOf counts (now (blocks .entry))) going (reached going (now (list .entry)) (now (from .entry)) (now (gate .entry))) (now (rows .entry)) r (reached (r .then) (now (list .exit)) (now (from .exit)) (now (gate .exit))) (now (rows .exit)) ⌝ }
+    ensures { λ r. ⌜ Moves (loadOf counts (now (blocks .entry))) going (reached going (now (list .entry)) (now (from .entry)) (now (gate .entry))) (now (rows .entry)) r (reached r (now (list .exit)) (now (from .exit)) (now (gate .exit))) (now (rows .exit)) ⌝ }
 {
     if going.empties == 0 {
         return start(counts, blocks, going, list, from, gate, rows);
@@ -155,14 +147,12 @@ pub fn next(
     let flow = going.empties - 1;
     let verdict = going.verdict;
     let running = going.running;
-    Noted {
+    Going {
+        go: 0 < flow + running.left,
         change: record::empties(flow),
-        then: Going {
-            go: 0 < flow + running.left,
-            verdict,
-            empties: flow,
-            running,
-        },
+        verdict,
+        empties: flow,
+        running,
     }
 }
 

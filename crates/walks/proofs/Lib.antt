@@ -1,4 +1,3 @@
-pub mod After
 pub mod Again
 pub mod Arrays
 pub mod Fields

@@ -23,7 +23,7 @@ use ghost.Atoms.{Atoms, sem}
 use contract.Monad.{Fun}
 use contract.Running.{givenOf, tables, tablesOf}
 use types.Kit.{Given, Item, ‵, raw, _⊛_, some, given, later, ⋆, mean, Post as PostOf, anyQ, atRet, runs, Sq, _$_, _∵_, !, qed, by, move, drop, use0, use1, use2, split, join, group, pick, learn, rewrite, fsplit, fjoin, suffices, frame, await, check, show, done}
-use types.Run.{look, init, store, forget, stop, hop, fld, from, load, lit, of-opd, and-then, no-more, addr, assigns, assigns-last, land, stays, leaves-loop, first, blocks, returns, exec, Below, again, loops, enter, alloc1, alloc0, params1, pass1, pass0, free1, free0}
+use types.Run.{look, init, store, forget, stop, hop, fld, from, load, lit, of-opd, and-then, no-more, addr, assigns, land, land-last, stays, leaves-loop, first, blocks, returns, exec, Below, again, loops, enter, alloc1, alloc0, params1, pass1, pass0, free1, free0}
 use types.Part.{agg, rep, whole, sub, look-in}
 use sound.WpLaws.{FmC, fmOf, WpFn-mono}
 use denote.RattleType.{owns}
@@ -40,7 +40,7 @@ use denote.Struct.Laws as LL
 use denote.Enum.Laws as EL
 use denote.Signature.{plain}
 use denote.Triple.Statement.{Triple}
-use denote.Triple.Call.{calls-at}
+use denote.Triple.Call.{calls-at, calls-at-last}
 use denote.Triple.Entry.{onEntry}
 use denote.Triple.Spec.{Meets, tripleOf}
 use denote.Triple.Table.{entered, cited}
@@ -66,7 +66,7 @@ use Rattle.mr3.specs.Going.{answered, reached}
 use Rattle.mr3.proofs.Goes as goes
 use Rattle.mr3.proofs.Goes.{Goes, goes-ready, goes-on, goes-ends}
 use Rattle.mr3.proofs.Steps.{Listed, From, Gate, Empty, First, Next, Note, Answer, to-empty, goes-empty, after-empty, gives-empty, to-first, goes-first, after-first, gives-first, to-next, goes-next, after-next, gives-next, to-note, goes-note, after-note, gives-note, to-answer, goes-answer, after-answer, gives-answer}
-use Rattle.mr3.proofs.Values.{goingTy, goingVal, IsGoing, going-typed, notedTy, notedVal, noted-typed, change-is, then-is, go-at, change-at, then-at, reads-go, reads-change, reads-then}
+use Rattle.mr3.proofs.Values.{goingTy, goingVal, IsGoing, going-typed, change-is, go-at, change-at, reads-go, reads-change}
 use Rattle.mr3.proofs.record.note.Symbol as note-def
 use Rattle.mr3.proofs.record.note.Symbol.{name as #note}
 use Rattle.mr3.proofs.record.note.Met as note-thm
@@ -174,7 +174,7 @@ module _ {M : Type 1} (𝓤 : URA M) (H : Heap 𝓤) (A : Atoms 𝓤) (W : Given
   module _ (𝓣 : Tables 𝓤 H) (fm : FmC 𝓤 H (W .laws) (𝓣 .C)) (known-empty : Triple 𝓤 (𝓣 .C #empty) (Empty 𝓤 H A mem run)) (known-first : Triple 𝓤 (𝓣 .C #first) (First 𝓤 H A mem run))
       (known-next : Triple 𝓤 (𝓣 .C #next) (Next 𝓤 H A mem run)) (known-note : Triple 𝓤 (𝓣 .C #note) (Note 𝓤 H A mem run)) (known-answer : Triple 𝓤 (𝓣 .C #answer) (Answer 𝓤 H A mem run))
       (fits₁ : length (x .now) < 2 ^ 64) (fits₂ : length fs₀ < 2 ^ 64) (fits₃ : length ws₀ < 2 ^ 64) where
-    module _ (l₀ l₁ l₂ l₃ l₄ l₅ l₆ l₇ l₈ l₉ l₁₀ l₁₁ l₁₂ l₁₃ l₁₄ l₁₅ l₁₆ l₁₇ l₁₈ l₁₉ l₂₀ l₂₁ l₂₂ l₂₃ : ℕ) where
+    module _ (l₀ l₁ l₂ l₃ l₄ l₅ l₆ l₇ l₈ l₉ l₁₀ l₁₁ l₁₂ l₁₃ l₁₄ l₁₅ l₁₆ l₁₇ l₁₈ l₁₉ l₂₀ l₂₁ l₂₂ : ℕ) where
       abbrev C : Calls 𝓤 H
       C = 𝓣 .C
 
@@ -183,8 +183,8 @@ module _ {M : Type 1} (𝓤 : URA M) (H : Heap 𝓤) (A : Atoms 𝓤) (W : Given
 
       abbrev En : Env 𝓤 H
       En = (P′.mir, l₀) ∷ (N′.mir, l₁) ∷ (word, l₂) ∷ (sliceTy (tyRef (named 0) imm (tyInt w32)), l₃) ∷ (sliceTy (tyRef (named 1) mut rec), l₄) ∷ (sliceTy (tyRef (named 2) mut word), l₅) ∷ (words 2048, l₆) ∷ (words 64, l₇) ∷ (words 64, l₈)
-          ∷ (goingTy, l₉) ∷ (notedTy, l₁₀) ∷ (words 2048, l₁₁) ∷ (word, l₁₂) ∷ (word, l₁₃) ∷ (tyRef erased mut (words 2048), l₁₄) ∷ (tyBool, l₁₅) ∷ (tyRef erased mut (words 2048), l₁₆) ∷ (tyRef erased mut (words 64), l₁₇) ∷ (tyRef erased mut (words 64), l₁₈)
-          ∷ (tyRef erased mut word, l₁₉) ∷ (sliceTy (tyRef erased mut word), l₂₀) ∷ (tyUnit, l₂₁) ∷ (tyRef erased mut rec, l₂₂) ∷ (sliceTy (tyRef erased mut rec), l₂₃) ∷ []
+          ∷ (goingTy, l₉) ∷ (words 2048, l₁₀) ∷ (word, l₁₁) ∷ (word, l₁₂) ∷ (tyRef erased mut (words 2048), l₁₃) ∷ (tyBool, l₁₄) ∷ (tyRef erased mut (words 2048), l₁₅) ∷ (tyRef erased mut (words 64), l₁₆) ∷ (tyRef erased mut (words 64), l₁₇)
+          ∷ (tyRef erased mut word, l₁₈) ∷ (sliceTy (tyRef erased mut word), l₁₉) ∷ (tyUnit, l₂₀) ∷ (tyRef erased mut rec, l₂₁) ∷ (sliceTy (tyRef erased mut rec), l₂₂) ∷ []
 
       -- a local with no value, and one with a value
       abbrev free : Ty → ℕ → List (Item 𝓤) → List (Item 𝓤)
@@ -198,8 +198,12 @@ module _ {M : Type 1} (𝓤 : URA M) (H : Heap 𝓤) (A : Atoms 𝓤) (W : Given
       given-locals = full (sliceTy (tyRef (named 2) mut word)) l₅ s₃ (full (sliceTy (tyRef (named 1) mut rec)) l₄ s₂ (full (sliceTy (tyRef (named 0) imm (tyInt w32))) l₃ s (full word l₂ (vint w64 n) (full N′.mir l₁ (N′.lowered c) (free P′.mir l₀ [])))))
 
       abbrev locals : List (Item 𝓤) → List (Item 𝓤)
-      locals Γ = free (sliceTy (tyRef erased mut rec)) l₂₃ (free (tyRef erased mut rec) l₂₂ (free tyUnit l₂₁ (free (sliceTy (tyRef erased mut word)) l₂₀ (free (tyRef erased mut word) l₁₉ (free (tyRef erased mut (words 64)) l₁₈ (free (tyRef erased mut (words 64)) l₁₇
-          (free (tyRef erased mut (words 2048)) l₁₆ (free tyBool l₁₅ (free (tyRef erased mut (words 2048)) l₁₄ (free word l₁₃ (free word l₁₂ (free (words 2048) l₁₁ (free notedTy l₁₀ Γ)))))))))))))
+      locals Γ = free (sliceTy (tyRef erased mut rec)) l₂₂ (free (tyRef erased mut rec) l₂₁ (free tyUnit l₂₀ (free (sliceTy (tyRef erased mut word)) l₁₉ (free (tyRef erased mut word) l₁₈ (free (tyRef erased mut (words 64)) l₁₇ (free (tyRef erased mut (words 64)) l₁₆
+          (free (tyRef erased mut (words 2048)) l₁₅ (free tyBool l₁₄ (free (tyRef erased mut (words 2048)) l₁₃ (free word l₁₂ (free word l₁₁ (free (words 2048) l₁₀ Γ))))))))))))
+
+      -- what the triples of `first` and `next` bind outside
+      abbrev firsts : ℕ → GName → List ℕ → First 𝓤 H A mem run .Ghost
+      firsts ν δ list = to-first 𝓤 H A W mem run κ q c x n (length fs₀) (length ws₀) l₆ ν δ list
 
       abbrev nexts : Now → ℕ → GName → ℕ → GName → ℕ → GName → ℕ → GName → Next 𝓤 H A mem run .Ghost
       nexts y ν₁ δ₁ ν₂ δ₂ ν₃ δ₃ ν δ = to-next 𝓤 H A W mem run κ q c x (y .g) l₆ ν₁ δ₁ (y .list) l₇ ν₂ δ₂ (y .places) l₈ ν₃ δ₃ (y .gate) b₃ o₃ s₃ ν δ (y .ws)
@@ -225,111 +229,108 @@ module _ {M : Type 1} (𝓤 : URA M) (H : Heap 𝓤) (A : Atoms 𝓤) (W : Given
       unfolding afterTurn
       -- nothing is to be noted any more: the loop is left, and the function returns
       turn zero = pick ! (λ y. learn ! (λ p. split ! $ move ! (1 ∷ []) $ split ! $ move ! (1 ∷ []) $ split ! $ move ! (1 ∷ []) $ split ! $ move ! (1 ∷ []) $ split ! $ move ! (5 ∷ 4 ∷ 3 ∷ 2 ∷ 0 ∷ 1 ∷ []) $
-          -- [the records; the rows; the list; the places; the gates; _9; three tokens; the blocks; _23; …; _10; …; that _9 to _6 die; _5; …; _0; …]
+          -- [the records; the rows; the list; the places; the gates; _9; three tokens; the blocks; _22; …; _10; …; that _9 to _6 die; _5; …; _0; …]
           assigns ! (of-opd ! (load ! (from ! (fld ! go-at (stop !))) (reads-go ! 5 (y .g) refl))) (from ! (stop !)) (init ! 26 refl (tt, tt)) $
-          rewrite ! 26 (λ (b : Bool). ‵ (fat fullShare tyBool l₁₅ 0 (vbool b))) (p .0 .go) refl $
+          rewrite ! 26 (λ (b : Bool). ‵ (fat fullShare tyBool l₁₄ 0 (vbool b))) (p .0 .go) refl $
           leaves-loop ! (load ! (from ! (stop !)) (look ! 26 refl)) $ exec ! C Λ En body.t-10 (atRet En Post) $
           use0 W (raw (Answer 𝓤 H A mem run .pre (to-answer 𝓤 H A W mem run (y .g)))) (goes-answer 𝓤 H A W mem run (y .g) (p .1)) $
           calls-at ! fm (Answer 𝓤 H A mem run) known-answer (to-answer 𝓤 H A W mem run (y .g)) (and-then ! (load ! (from ! (stop !)) (look ! 6 refl)) (no-more !)) (λ u.
           use1 W (after-answer 𝓤 H A W mem run (y .g) u) (gives-answer 𝓤 H A W mem run (y .g) u) $ await ! tt $ learn ! (λ e. drop ! $
-          land ! (from ! (stop !)) (init ! 52 refl (subst (λ (w : Val). Holds (hasTy P′.mir w) × WT w) (sym (e .0)) (EL.lawful P.the-type P′.the-laws 𝓤 H A W tt .typed (answer (y .g)) _ (e .1) .0))) $
-          returns ! (look ! 52 refl) $ forget ! 5 refl $ forget ! 26 refl $ forget ! 42 refl $ forget ! 44 refl $ forget ! 46 refl $ forget ! 48 refl $ forget ! 50 refl $ forget ! 52 refl $
+          land ! (from ! (stop !)) (init ! 50 refl (subst (λ (w : Val). Holds (hasTy P′.mir w) × WT w) (sym (e .0)) (EL.lawful P.the-type P′.the-laws 𝓤 H A W tt .typed (answer (y .g)) _ (e .1) .0))) $
+          returns ! (look ! 50 refl) $ forget ! 5 refl $ forget ! 26 refl $ forget ! 40 refl $ forget ! 42 refl $ forget ! 44 refl $ forget ! 46 refl $ forget ! 48 refl $ forget ! 50 refl $
           move ! (2 ∷ []) $ leaves-room ! u64 (uint-vals w64) (uint-tells w64) 2048 (y .list) l₆ $ move ! (3 ∷ []) $ leaves-room ! usize (uint-vals w64) (uint-tells w64) 64 (y .places) l₇ $
           move ! (4 ∷ []) $ leaves-room ! u64 (uint-vals w64) (uint-tells w64) 64 (y .gate) l₈ $
-          -- [room for _8, _7 and _6; the records; the rows; room for _9; three tokens; the blocks; _23; …]
-          move ! (52 ∷ 53 ∷ []) $ free1 ! $ move ! (50 ∷ 51 ∷ []) $ free1 ! $ move ! (48 ∷ 49 ∷ []) $ free1 ! $ move ! (46 ∷ 47 ∷ []) $ free1 ! $ move ! (44 ∷ 45 ∷ []) $ free1 ! $ move ! (42 ∷ 43 ∷ []) $ free1 ! $ move ! (2 ∷ 41 ∷ []) $ free1 ! $ move ! (1 ∷ 39 ∷ []) $ free1 ! $ move ! (0 ∷ 37 ∷ []) $ free1 ! $ move ! (2 ∷ 35 ∷ []) $ free1 ! $
-          move ! (32 ∷ 33 ∷ []) $ free1 ! $ move ! (30 ∷ 31 ∷ []) $ free1 ! $ move ! (28 ∷ 29 ∷ []) $ free1 ! $ move ! (26 ∷ 27 ∷ []) $ free1 ! $ move ! (24 ∷ 25 ∷ []) $ free1 ! $ move ! (22 ∷ 23 ∷ []) $ free1 ! $ move ! (20 ∷ 21 ∷ []) $ free1 ! $
+          -- [room for _8, _7 and _6; the records; the rows; room for _9; three tokens; the blocks; _22; …]
+          move ! (50 ∷ 51 ∷ []) $ free1 ! $ move ! (48 ∷ 49 ∷ []) $ free1 ! $ move ! (46 ∷ 47 ∷ []) $ free1 ! $ move ! (44 ∷ 45 ∷ []) $ free1 ! $ move ! (42 ∷ 43 ∷ []) $ free1 ! $ move ! (40 ∷ 41 ∷ []) $ free1 ! $ move ! (2 ∷ 39 ∷ []) $ free1 ! $ move ! (1 ∷ 37 ∷ []) $ free1 ! $
+          move ! (0 ∷ 35 ∷ []) $ free1 ! $ move ! (2 ∷ 33 ∷ []) $ free1 ! $ move ! (30 ∷ 31 ∷ []) $ free1 ! $ move ! (28 ∷ 29 ∷ []) $ free1 ! $ move ! (26 ∷ 27 ∷ []) $ free1 ! $ move ! (24 ∷ 25 ∷ []) $ free1 ! $ move ! (22 ∷ 23 ∷ []) $ free1 ! $ move ! (20 ∷ 21 ∷ []) $ free1 ! $
           move ! (18 ∷ 19 ∷ []) $ free1 ! $ move ! (16 ∷ 17 ∷ []) $ free1 ! $ move ! (14 ∷ 15 ∷ []) $ free1 ! $ move ! (12 ∷ 13 ∷ []) $ free1 ! $ move ! (10 ∷ 11 ∷ []) $ free1 ! $ move ! (8 ∷ 9 ∷ []) $ free1 ! $ move ! (6 ∷ 7 ∷ []) $ free1 ! $ free0 ! $ move ! (1 ∷ 4 ∷ 0 ∷ 3 ∷ 2 ∷ 5 ∷ []) $
           by ! (subst (λ (w : Val). ent 𝓤 (⋆ 𝓤 H A (‵ (own₃ (y .ws)) ∷ ‵ (flft κ₃ q₃) ∷ ‵ (own₂ (y .fs)) ∷ ‵ (flft κ₂ q₂) ∷ ‵ (flft κ q) ∷ ‵ own ∷ [])) (Post w)) (sym (e .0))
           (exits (answer (y .g)) (y .fs) (y .ws) (p .0 .long-flows) (p .0 .long-rows) (e .1) (goes-ends c n (x .now) fs₀ ws₀ (y .g) _ (y .fs) (y .ws) (p .0))))))))
       turn (suc i) = pick ! (λ y. learn ! (λ p. split ! $ move ! (1 ∷ []) $ split ! $ move ! (1 ∷ []) $ split ! $ move ! (1 ∷ []) $ split ! $ move ! (1 ∷ []) $ split ! $ move ! (5 ∷ 4 ∷ 3 ∷ 2 ∷ 0 ∷ 1 ∷ []) $
           assigns ! (of-opd ! (load ! (from ! (fld ! go-at (stop !))) (reads-go ! 5 (y .g) refl))) (from ! (stop !)) (init ! 26 refl (tt, tt)) $
-          rewrite ! 26 (λ (b : Bool). ‵ (fat fullShare tyBool l₁₅ 0 (vbool b))) (p .0 .go ∙ lt-ltb 0 (suc i) (omega arith)) refl $ stays ! (load ! (from ! (stop !)) (look ! 26 refl)) $
-          -- next(counts, blocks, going, &mut list, &mut from, &mut gate, rows)
+          rewrite ! 26 (λ (b : Bool). ‵ (fat fullShare tyBool l₁₄ 0 (vbool b))) (p .0 .go ∙ lt-ltb 0 (suc i) (omega arith)) refl $ stays ! (load ! (from ! (stop !)) (look ! 26 refl)) $
+          -- going = next(counts, blocks, going, &mut list, &mut from, &mut gate, rows)
           assigns ! (addr ! (from ! (stop !))) (from ! (stop !)) (init ! 24 refl (tt, tt)) $ assigns ! (addr ! (from ! (stop !))) (from ! (stop !)) (init ! 22 refl (tt, tt)) $ assigns ! (addr ! (from ! (stop !))) (from ! (stop !)) (init ! 20 refl (tt, tt)) $
-          assigns ! (addr ! (from ! (fld ! refl (hop ! (look-in ! 42 (sub ! 0 refl (whole !))) (stop !))))) (from ! (stop !)) (init ! 18 refl (tt, tt)) $
-          assigns ! (agg ! (and-then ! (load ! (from ! (stop !)) (look ! 18 refl)) (and-then ! (load ! (from ! (fld ! refl (stop !))) (look-in ! 42 (sub ! 1 refl (whole !)))) (no-more !)))) (from ! (stop !)) (init ! 16 refl (tt, (tt, (record { fits = fits₃ }, tt)))) $
+          assigns ! (addr ! (from ! (fld ! refl (hop ! (look-in ! 40 (sub ! 0 refl (whole !))) (stop !))))) (from ! (stop !)) (init ! 18 refl (tt, tt)) $
+          assigns ! (agg ! (and-then ! (load ! (from ! (stop !)) (look ! 18 refl)) (and-then ! (load ! (from ! (fld ! refl (stop !))) (look-in ! 40 (sub ! 1 refl (whole !)))) (no-more !)))) (from ! (stop !)) (init ! 16 refl (tt, (tt, (record { fits = fits₃ }, tt)))) $
           move ! (1 ∷ 8 ∷ []) $ relends ! tt u64 (named 2) (named 4) b₃ o₃ (y .ws) s₃ (λ ν δ is room.
-          -- [ν's token; the rows; what is kept; the records; the list; the places; the gates; _9; two tokens; the blocks; _23; …]
+          -- [ν's token; the rows; what is kept; the records; the list; the places; the gates; _9; two tokens; the blocks; _22; …]
           move ! (6 ∷ []) $ lends-whole ! tt Gate (named 3) (y .gate) l₈ (λ ν₃ δ₃. move ! (8 ∷ []) $ lends-whole ! tt From (named 2) (y .places) l₇ (λ ν₂ δ₂. move ! (10 ∷ []) $ lends-whole ! tt Listed (named 1) (y .list) l₆ (λ ν₁ δ₁.
-          -- [the list, the places and the gates, each with its token and what is kept; the rows likewise; the records; _9; two tokens; the blocks; _23; …]
+          -- [the list, the places, the gates and the rows, each with its token before and what is kept after it; the records; _9; two tokens; the blocks; _22; …]
           move ! (14 ∷ 16 ∷ 0 ∷ 1 ∷ 3 ∷ 4 ∷ 6 ∷ 7 ∷ 9 ∷ 10 ∷ []) $ group ! 10 $
           use1 W (raw (Next 𝓤 H A mem run .pre (nexts y ν₁ δ₁ ν₂ δ₂ ν₃ δ₃ ν δ)) ⊛ ‵ own) (goes-next 𝓤 H A W mem run κ q c x (y .g) l₆ ν₁ δ₁ (y .list) l₇ ν₂ δ₂ (y .places) l₈ ν₃ δ₃ (y .gate) b₃ o₃ s₃ ν δ (y .ws) c-is (p .1) (goes-ready c n (x .now) fs₀ ws₀ i (y .g) _ (y .fs) (y .ws) (p .0))) $ split ! $
-          -- [next's pre; the blocks; what is kept of the list, the places, the gates and the rows; the records; _9; a token; _23; …]
-          calls-at ! fm (Next 𝓤 H A mem run) known-next (nexts y ν₁ δ₁ ν₂ δ₂ ν₃ δ₃ ν δ) (and-then ! (load ! (from ! (stop !)) (look ! 49 refl)) (and-then ! (load ! (from ! (stop !)) (look ! 45 refl)) (and-then ! (load ! (from ! (stop !)) (look ! 7 refl)) (and-then ! (load ! (from ! (stop !)) (look ! 23 refl))
+          -- [next's pre; the blocks; what is kept of the list, the places, the gates and the rows; the records; _9; a token; _22; …]
+          calls-at ! fm (Next 𝓤 H A mem run) known-next (nexts y ν₁ δ₁ ν₂ δ₂ ν₃ δ₃ ν δ) (and-then ! (load ! (from ! (stop !)) (look ! 47 refl)) (and-then ! (load ! (from ! (stop !)) (look ! 43 refl)) (and-then ! (load ! (from ! (stop !)) (look ! 7 refl)) (and-then ! (load ! (from ! (stop !)) (look ! 23 refl))
           (and-then ! (load ! (from ! (stop !)) (look ! 21 refl)) (and-then ! (load ! (from ! (stop !)) (look ! 19 refl)) (and-then ! (load ! (from ! (stop !)) (look ! 15 refl)) (no-more !)))))))) (λ u.
           use1 W (after-next 𝓤 H A W mem run κ q c x (y .g) l₆ ν₁ δ₁ (y .list) l₇ ν₂ δ₂ (y .places) l₈ ν₃ δ₃ (y .gate) b₃ o₃ s₃ ν δ (y .ws) u) (gives-next 𝓤 H A W mem run κ q c x (y .g) l₆ ν₁ δ₁ (y .list) l₇ ν₂ δ₂ (y .places) l₈ ν₃ δ₃ (y .gate) b₃ o₃ s₃ ν δ (y .ws) u) $ await ! tt $ pick ! (λ z. learn ! (λ told.
           split ! $ move ! (1 ∷ []) $ split ! $ move ! (1 ∷ []) $ split ! $ move ! (1 ∷ []) $ split ! $ move ! (1 ∷ []) $ split ! $ move ! (1 ∷ []) $ split ! $ move ! (1 ∷ []) $ split ! $ move ! (1 ∷ []) $ split ! $
-          -- [ν's token; what is said last of the rows; of the gates; ν₃'s token; of the places; ν₂'s; of the list; ν₁'s; a token; the blocks; what is kept of the list, the places, the gates and the rows; the records; _9; a token; _23; …]
+          -- [ν's token; what is said last of the rows; of the gates; ν₃'s token; of the places; ν₂'s; of the list; ν₁'s; a token; the blocks; what is kept of the list, the places, the gates and the rows; the records; _9; a token; _22; …]
           move ! (0 ∷ 13 ∷ 1 ∷ []) $ unlends ! tt u64 (named 2) b₃ o₃ (y .ws) (z .rows′) s₃ is room (told .2) $ move ! (3 ∷ 12 ∷ 2 ∷ []) $ whole-back ! tt Gate (z .gate′) l₈ $ move ! (4 ∷ 10 ∷ 3 ∷ []) $ whole-back ! tt From (z .from′) l₇ $
           move ! (5 ∷ 8 ∷ 4 ∷ []) $ whole-back ! tt Listed (z .list′) l₆ $
-          -- [the list; the places; the gates; the rows; two tokens; the blocks; the records; _9; a token; _23; …]
-          land ! (from ! (stop !)) (init ! 36 refl (subst (λ (w : Val). Holds (hasTy notedTy w) × WT w) (sym (told .0)) (noted-typed 𝓤 H A W (z .said) (told .1)))) $ rewrite ! 36 (λ (w : Val). ‵ (fat fullShare notedTy l₁₀ 0 w)) (told .0) refl $
-          -- note(flows, noted.change)
-          let on = goes-on c n (x .now) fs₀ ws₀ i (y .g) _ (y .fs) (y .ws) (p .0) (z .said) _ (z .rows′) (told .3) in
-          let after : List FlowRecord = noted (y .fs) (z .said .change) in
-          assigns ! (addr ! (from ! (fld ! refl (hop ! (look-in ! 44 (sub ! 0 refl (whole !))) (stop !))))) (from ! (stop !)) (init ! 12 refl (tt, tt)) $
-          assigns ! (agg ! (and-then ! (load ! (from ! (stop !)) (look ! 12 refl)) (and-then ! (load ! (from ! (fld ! refl (stop !))) (look-in ! 44 (sub ! 1 refl (whole !)))) (no-more !)))) (from ! (stop !)) (init ! 10 refl (tt, (tt, (record { fits = fits₂ }, tt)))) $
+          -- [the list; the places; the gates; the rows; two tokens; the blocks; the records; _9; a token; _22; …]
+          land ! (from ! (stop !)) (store ! 8 refl (subst (λ (w : Val). Holds (hasTy goingTy w) × WT w) (sym (told .0)) (going-typed 𝓤 H A W (z .g′) (told .1)))) $ rewrite ! 8 (λ (w : Val). ‵ (fat fullShare goingTy l₉ 0 w)) (told .0) refl $
+          -- note(flows, going.change)
+          let on = goes-on c n (x .now) fs₀ ws₀ i (y .g) _ (y .fs) (y .ws) (p .0) (z .g′) _ (z .rows′) (told .3) in
+          let after : List FlowRecord = noted (y .fs) (z .g′ .change) in
+          assigns ! (addr ! (from ! (fld ! refl (hop ! (look-in ! 42 (sub ! 0 refl (whole !))) (stop !))))) (from ! (stop !)) (init ! 12 refl (tt, tt)) $
+          assigns ! (agg ! (and-then ! (load ! (from ! (stop !)) (look ! 12 refl)) (and-then ! (load ! (from ! (fld ! refl (stop !))) (look-in ! 42 (sub ! 1 refl (whole !)))) (no-more !)))) (from ! (stop !)) (init ! 10 refl (tt, (tt, (record { fits = fits₂ }, tt)))) $
           move ! (7 ∷ 9 ∷ []) $ relends ! tt T.the-row (named 1) (named 0) b₂ o₂ (y .fs) s₂ (λ ν′ δ′ is′ room′.
-          -- [ν′'s token; the records; what is kept; the list; the places; the gates; the rows; two tokens; the blocks; _9; _23; …]
-          use2 W (raw (Note 𝓤 H A mem run .pre (to-note 𝓤 H A W mem run b₂ o₂ s₂ ν′ δ′ (y .fs) (z .said .change)))) (goes-note 𝓤 H A W mem run b₂ o₂ s₂ ν′ δ′ (y .fs) (z .said .change) (change-is (z .said) (told .1)) (on .0, on .1)) $
-          calls-at ! fm (Note 𝓤 H A mem run) known-note (to-note 𝓤 H A W mem run b₂ o₂ s₂ ν′ δ′ (y .fs) (z .said .change)) (and-then ! (load ! (from ! (stop !)) (look ! 10 refl)) (and-then ! (load ! (from ! (fld ! change-at (stop !))) (reads-change ! 36 (z .said) refl)) (no-more !))) (λ v.
-          use1 W (after-note 𝓤 H A W mem run b₂ o₂ s₂ ν′ δ′ (y .fs) (z .said .change) v) (gives-note 𝓤 H A W mem run b₂ o₂ s₂ ν′ δ′ (y .fs) (z .said .change) v) $ await ! tt $ learn ! (λ e. split ! $
-          land ! (from ! (stop !)) (init ! 15 refl (subst (λ (w : Val). Holds (hasTy tyUnit w) × WT w) (sym e) (tt, tt))) $
-          move ! (0 ∷ 2 ∷ 1 ∷ []) $ unlends ! tt T.the-row (named 1) b₂ o₂ (y .fs) after s₂ is′ room′ (length-set (y .fs) (z .said .change .flow) _) $
-          -- going = noted.then
-          assigns-last ! (of-opd ! (load ! (from ! (fld ! then-at (stop !))) (reads-then ! 36 (z .said) refl))) (from ! (stop !)) (store ! 9 refl (going-typed 𝓤 H A W (z .said .then) (then-is (z .said) (told .1)))) $
-          -- [the records; a token; the list; the places; the gates; the rows; two tokens; the blocks; _9; _23; …]
-          forget ! 10 refl $ forget ! 12 refl $ forget ! 14 refl $ forget ! 16 refl $ forget ! 18 refl $ forget ! 20 refl $ forget ! 22 refl $ forget ! 24 refl $ forget ! 26 refl $ forget ! 36 refl $
+          -- [ν′'s token; the records; what is kept; the list; the places; the gates; the rows; two tokens; the blocks; _9; _22; …]
+          use2 W (raw (Note 𝓤 H A mem run .pre (to-note 𝓤 H A W mem run b₂ o₂ s₂ ν′ δ′ (y .fs) (z .g′ .change)))) (goes-note 𝓤 H A W mem run b₂ o₂ s₂ ν′ δ′ (y .fs) (z .g′ .change) (change-is (z .g′) (told .1)) (on .0, on .1)) $
+          calls-at-last ! fm (Note 𝓤 H A mem run) known-note (to-note 𝓤 H A W mem run b₂ o₂ s₂ ν′ δ′ (y .fs) (z .g′ .change)) (and-then ! (load ! (from ! (stop !)) (look ! 10 refl)) (and-then ! (load ! (from ! (fld ! change-at (stop !))) (reads-change ! 9 (z .g′) refl)) (no-more !))) (λ v.
+          use1 W (after-note 𝓤 H A W mem run b₂ o₂ s₂ ν′ δ′ (y .fs) (z .g′ .change) v) (gives-note 𝓤 H A W mem run b₂ o₂ s₂ ν′ δ′ (y .fs) (z .g′ .change) v) $ await ! tt $ learn ! (λ e. split ! $
+          move ! (0 ∷ 2 ∷ 1 ∷ []) $ unlends ! tt T.the-row (named 1) b₂ o₂ (y .fs) after s₂ is′ room′ (length-set (y .fs) (z .g′ .change .flow) _) $
+          -- [the records; a token; the list; the places; the gates; the rows; two tokens; the blocks; _9; _22; …]
+          land-last ! (from ! (stop !)) (init ! 14 refl (subst (λ (w : Val). Holds (hasTy tyUnit w) × WT w) (sym e) (tt, tt))) $
+          forget ! 10 refl $ forget ! 12 refl $ forget ! 14 refl $ forget ! 16 refl $ forget ! 18 refl $ forget ! 20 refl $ forget ! 22 refl $ forget ! 24 refl $ forget ! 26 refl $
           move ! (0 ∷ 5 ∷ 2 ∷ 3 ∷ 4 ∷ 9 ∷ []) $ group ! 6 $
-          use1 W (State i) (packed i (record { g = z .said .then; list = z .list′; places = z .from′; gate = z .gate′; fs = after; ws = z .rows′ }) (on .2, then-is (z .said) (told .1))) $ move ! (0 ∷ 3 ∷ 1 ∷ 2 ∷ []) $
+          use1 W (State i) (packed i (record { g = z .g′; list = z .list′; places = z .from′; gate = z .gate′; fs = after; ws = z .rows′ }) (on .2, told .1)) $ move ! (0 ∷ 3 ∷ 1 ∷ 2 ∷ []) $
           again ! _<_ Inv (suc i) i (lt-suc-self i)))))))))))))
 
-      -- the arrays and the first state of the call, and the loop
+      -- the arrays and where the call is before the first start, and the loop
       begins : Sq W (‵ (own₂ fs₀) ∷ ‵ (own₃ ws₀) ∷ ‵ (flft κ q) ∷ ‵ (flft κ₂ q₂) ∷ ‵ (flft κ₃ q₃) ∷ ‵ own ∷ locals (free goingTy l₉ (free (words 64) l₈ (free (words 64) l₇ (free (words 2048) l₆ given-locals))))) (runs C Λ En body.t-1 (atRet En Post))
       begins =
           use0 W (raw (Empty 𝓤 H A mem run .pre (to-empty 𝓤 H A W mem run))) (goes-empty 𝓤 H A W mem run) $ calls-at ! fm (Empty 𝓤 H A mem run) known-empty (to-empty 𝓤 H A W mem run) (no-more !) (λ v.
           use1 W (after-empty 𝓤 H A W mem run v) (gives-empty 𝓤 H A W mem run v) $ await ! tt $ pick ! (λ list. learn ! (λ none. peeks ! Listed (Is Listed) (shows 𝓤 H A Listed) list (v ∷ []) (λ is.
-          -- [the list; the records; the rows; three tokens; the blocks; _23; …; _10; …; _9; …; _8; …; _7; …; _6; …; _5; …]
-          land ! (from ! (stop !)) (init ! 31 refl (words-typed 2048 list v is)) $ assigns ! (of-opd ! (load ! (from ! (stop !)) (look ! 31 refl))) (from ! (stop !)) (init ! 41 refl (words-typed 2048 list v is)) $ forget ! 31 refl $
-          move ! (41 ∷ 0 ∷ []) $ holds ! u64 2048 list v l₆ $
-          use0 W (‵ (From .own (replicate 64 0) (zeros ∷ []))) zeroed $ peeks ! From (Is From) (shows 𝓤 H A From) (replicate 64 0) (zeros ∷ []) (λ is₇. assigns ! (rep ! 64 (lit ! tt)) (from ! (stop !)) (init ! 40 refl (words-typed 64 (replicate 64 0) zeros is₇)) $
-          move ! (40 ∷ 0 ∷ []) $ holds ! usize 64 (replicate 64 0) zeros l₇ $
-          use0 W (‵ (Gate .own (replicate 64 0) (zeros ∷ []))) zeroed $ peeks ! Gate (Is Gate) (shows 𝓤 H A Gate) (replicate 64 0) (zeros ∷ []) (λ is₈. assigns ! (rep ! 64 (lit ! tt)) (from ! (stop !)) (init ! 39 refl (words-typed 64 (replicate 64 0) zeros is₈)) $
-          move ! (39 ∷ 0 ∷ []) $ holds ! u64 64 (replicate 64 0) zeros l₈ $
-          -- [the gates; the places; the list; the records; the rows; three tokens; the blocks; _23; …; _9; …; that _8 to _6 die; _5; …]
+          -- [the list; the records; the rows; three tokens; the blocks; _22; …; _10; …; _9; …; _8; …; _7; …; _6; …; _5; …]
+          land ! (from ! (stop !)) (init ! 31 refl (words-typed 2048 list v is)) $ assigns ! (of-opd ! (load ! (from ! (stop !)) (look ! 31 refl))) (from ! (stop !)) (init ! 39 refl (words-typed 2048 list v is)) $ forget ! 31 refl $
+          move ! (39 ∷ 0 ∷ []) $ holds ! u64 2048 list v l₆ $
+          use0 W (‵ (From .own (replicate 64 0) (zeros ∷ []))) zeroed $ peeks ! From (Is From) (shows 𝓤 H A From) (replicate 64 0) (zeros ∷ []) (λ is₀. assigns ! (rep ! 64 (lit ! tt)) (from ! (stop !)) (init ! 38 refl (words-typed 64 (replicate 64 0) zeros is₀)) $
+          move ! (38 ∷ 0 ∷ []) $ holds ! usize 64 (replicate 64 0) zeros l₇ $
+          use0 W (‵ (Gate .own (replicate 64 0) (zeros ∷ []))) zeroed $ assigns ! (rep ! 64 (lit ! tt)) (from ! (stop !)) (init ! 37 refl (words-typed 64 (replicate 64 0) zeros is₀)) $ move ! (37 ∷ 0 ∷ []) $ holds ! u64 64 (replicate 64 0) zeros l₈ $
+          -- [the gates; the places; the list; the records; the rows; three tokens; the blocks; _22; …; _9; …; that _8 to _6 die; _5; …]
           -- first(counts, limit, blocks, flows.len(), rows.len(), &mut list)
-          assigns ! (of-opd ! (load ! (from ! (fld ! refl (stop !))) (look-in ! 44 (sub ! 1 refl (whole !))))) (from ! (stop !)) (init ! 31 refl (tt, record { fits = fits₂ })) $
-          assigns ! (of-opd ! (load ! (from ! (fld ! refl (stop !))) (look-in ! 42 (sub ! 1 refl (whole !))))) (from ! (stop !)) (init ! 29 refl (tt, record { fits = fits₃ })) $
+          assigns ! (of-opd ! (load ! (from ! (fld ! refl (stop !))) (look-in ! 42 (sub ! 1 refl (whole !))))) (from ! (stop !)) (init ! 31 refl (tt, record { fits = fits₂ })) $
+          assigns ! (of-opd ! (load ! (from ! (fld ! refl (stop !))) (look-in ! 40 (sub ! 1 refl (whole !))))) (from ! (stop !)) (init ! 29 refl (tt, record { fits = fits₃ })) $
           assigns ! (addr ! (from ! (stop !))) (from ! (stop !)) (init ! 27 refl (tt, tt)) $
           move ! (2 ∷ []) $ lends-whole ! tt Listed (named 1) list l₆ (λ ν δ.
-          -- [ν's token; the list; what is kept; the gates; the places; the records; the rows; three tokens; the blocks; _23; …]
-          move ! (0 ∷ 1 ∷ 7 ∷ 10 ∷ []) $ group ! 4 $ use1 W (raw (First 𝓤 H A mem run .pre (to-first 𝓤 H A W mem run κ q c x n (length fs₀) (length ws₀) l₆ ν δ list)) ⊛ ‵ own) (goes-first 𝓤 H A W mem run κ q c x n (length fs₀) (length ws₀) l₆ ν δ list c-is n-fits fits₂ fits₃ none) $ split ! $
-          -- [first's pre; the blocks; what is kept; the gates; the places; the records; the rows; two tokens; _23; …]
-          calls-at ! fm (First 𝓤 H A mem run) known-first (to-first 𝓤 H A W mem run κ q c x n (length fs₀) (length ws₀) l₆ ν δ list) (and-then ! (load ! (from ! (stop !)) (look ! 50 refl)) (and-then ! (load ! (from ! (stop !)) (look ! 48 refl)) (and-then ! (load ! (from ! (stop !)) (look ! 46 refl))
+          -- [ν's token; the list; what is kept; the gates; the places; the records; the rows; three tokens; the blocks; _22; …]
+          move ! (0 ∷ 1 ∷ 7 ∷ 10 ∷ []) $ group ! 4 $ use1 W (raw (First 𝓤 H A mem run .pre (firsts ν δ list)) ⊛ ‵ own) (goes-first 𝓤 H A W mem run κ q c x n (length fs₀) (length ws₀) l₆ ν δ list c-is n-fits fits₂ fits₃ none) $ split ! $
+          -- [first's pre; the blocks; what is kept; the gates; the places; the records; the rows; two tokens; _22; …]
+          calls-at ! fm (First 𝓤 H A mem run) known-first (firsts ν δ list) (and-then ! (load ! (from ! (stop !)) (look ! 48 refl)) (and-then ! (load ! (from ! (stop !)) (look ! 46 refl)) (and-then ! (load ! (from ! (stop !)) (look ! 44 refl))
           (and-then ! (load ! (from ! (stop !)) (look ! 31 refl)) (and-then ! (load ! (from ! (stop !)) (look ! 29 refl)) (and-then ! (load ! (from ! (stop !)) (look ! 27 refl)) (no-more !))))))) (λ u.
           use1 W (after-first 𝓤 H A W mem run κ q c x n (length fs₀) (length ws₀) l₆ ν δ list u) (gives-first 𝓤 H A W mem run κ q c x n (length fs₀) (length ws₀) l₆ ν δ list u) $ await ! tt $ pick ! (λ y. learn ! (λ told. split ! $ move ! (1 ∷ []) $ split ! $
-          -- [ν's token; what is said last of the list; a token; the blocks; what is kept; the gates; the places; the records; the rows; two tokens; _23; …]
+          -- [ν's token; what is said last of the list; a token; the blocks; what is kept; the gates; the places; the records; the rows; two tokens; _22; …]
           move ! (0 ∷ 4 ∷ 1 ∷ []) $ whole-back ! tt Listed (y .1) l₆ $
-          land ! (from ! (stop !)) (init ! 37 refl (subst (λ (w : Val). Holds (hasTy goingTy w) × WT w) (sym (told .0)) (going-typed 𝓤 H A W (y .0) (told .1)))) $ rewrite ! 37 (λ (w : Val). ‵ (fat fullShare goingTy l₉ 0 w)) (told .0) refl $
-          forget ! 27 refl $ forget ! 29 refl $ forget ! 31 refl $ move ! (5 ∷ 6 ∷ 0 ∷ 4 ∷ 3 ∷ 37 ∷ []) $ group ! 6 $
+          land ! (from ! (stop !)) (init ! 35 refl (subst (λ (w : Val). Holds (hasTy goingTy w) × WT w) (sym (told .0)) (going-typed 𝓤 H A W (y .0) (told .1)))) $ rewrite ! 35 (λ (w : Val). ‵ (fat fullShare goingTy l₉ 0 w)) (told .0) refl $
+          forget ! 27 refl $ forget ! 29 refl $ forget ! 31 refl $ move ! (5 ∷ 6 ∷ 0 ∷ 4 ∷ 3 ∷ 35 ∷ []) $ group ! 6 $
           use1 W (State (y .0 .empties + y .0 .running .left)) (packed _ (record { g = y .0; list = y .1; places = replicate 64 0; gate = replicate 64 0; fs = fs₀; ws = ws₀ }) (goes.goes-first c n (x .now) fs₀ ws₀ (y .0) (y .1) (told .2), told .1)) $ move ! (0 ∷ 1 ∷ 3 ∷ 4 ∷ 2 ∷ []) $
-          first ! $ blocks ! $ loops ! 𝓣 _<_ (Nat·lt-wfRel .wf) Inv turn (y .0 .empties + y .0 .running .left)))))))))))
+          first ! $ blocks ! $ loops ! 𝓣 _<_ (Nat·lt-wfRel .wf) Inv turn (y .0 .empties + y .0 .running .left))))))))))
 
     walk : ent 𝓤 (onEntry 𝓤 H A plan.signature (κ, (κ₂, (κ₃, tt))) (q, (q₂, (q₃, tt))) a vals) (WpFn 𝓤 H (𝓣 .C) (𝓣 .Λ) code.function (N′.lowered c ∷ vint w64 n ∷ s ∷ s₂ ∷ s₃ ∷ []) Post)
-    unfolding goingTy notedTy
+    unfolding goingTy
     walk =
         qed W ((‵ (flft κ q) ⊛ (‵ (flft κ₂ q₂) ⊛ (‵ (flft κ₃ q₃) ⊛ ‵ ftrue))) ∷ ‵ (owns (N.the-row ∷ u64 ∷ ShrSlice (named 0) κ u32 ∷ MutSlice (named 1) κ₂ T.the-row ∷ MutSlice (named 2) κ₃ u64 ∷ []) a vals) ∷ []) ∵ enter ! (𝓣 .C) (𝓣 .Λ) code.function (N′.lowered c ∷ vint w64 n ∷ s ∷ s₂ ∷ s₃ ∷ []) _ $
         alloc1 ! (λ l₀. alloc1 ! (λ l₁. alloc1 ! (λ l₂. alloc1 ! (λ l₃. alloc1 ! (λ l₄. alloc1 ! (λ l₅. alloc1 ! (λ l₆. alloc1 ! (λ l₇. alloc1 ! (λ l₈. alloc1 ! (λ l₉. alloc1 ! (λ l₁₀. alloc1 ! (λ l₁₁.
-        alloc1 ! (λ l₁₂. alloc1 ! (λ l₁₃. alloc1 ! (λ l₁₄. alloc1 ! (λ l₁₅. alloc1 ! (λ l₁₆. alloc1 ! (λ l₁₇. alloc1 ! (λ l₁₈. alloc1 ! (λ l₁₉. alloc1 ! (λ l₂₀. alloc1 ! (λ l₂₁. alloc1 ! (λ l₂₂. alloc1 ! (λ l₂₃. alloc0 ! $ params1 ! $
-        pass1 ! (init ! 44 refl (LL.lawful N.the-type N′.the-laws 𝓤 H A W .typed c _ c-is .0)) $ pass1 ! (init ! 42 refl (tt, record { fits = n-fits })) $
-        pass1 ! (init ! 40 refl (tt, (tt, (record { fits = fits₁ }, tt)))) $ pass1 ! (init ! 38 refl (tt, (tt, (record { fits = fits₂ }, tt)))) $ pass1 ! (init ! 36 refl (tt, (tt, (record { fits = fits₃ }, tt)))) $ pass0 ! $
-        move ! (48 ∷ 49 ∷ []) $ split ! $ move ! (1 ∷ []) $ split ! $ move ! (1 ∷ []) $ split ! $
-        -- [the third token; true; the second; the first; what the parameters own; _23; …]
+        alloc1 ! (λ l₁₂. alloc1 ! (λ l₁₃. alloc1 ! (λ l₁₄. alloc1 ! (λ l₁₅. alloc1 ! (λ l₁₆. alloc1 ! (λ l₁₇. alloc1 ! (λ l₁₈. alloc1 ! (λ l₁₉. alloc1 ! (λ l₂₀. alloc1 ! (λ l₂₁. alloc1 ! (λ l₂₂. alloc0 ! $ params1 ! $
+        pass1 ! (init ! 42 refl (LL.lawful N.the-type N′.the-laws 𝓤 H A W .typed c _ c-is .0)) $ pass1 ! (init ! 40 refl (tt, record { fits = n-fits })) $
+        pass1 ! (init ! 38 refl (tt, (tt, (record { fits = fits₁ }, tt)))) $ pass1 ! (init ! 36 refl (tt, (tt, (record { fits = fits₂ }, tt)))) $ pass1 ! (init ! 34 refl (tt, (tt, (record { fits = fits₃ }, tt)))) $ pass0 ! $
+        move ! (46 ∷ 47 ∷ []) $ split ! $ move ! (1 ∷ []) $ split ! $ move ! (1 ∷ []) $ split ! $
+        -- [the third token; true; the second; the first; what the parameters own; _22; …]
         move ! (4 ∷ []) $ fsplit ! $ drop ! $ fsplit ! $ drop ! $ fsplit ! $ move ! (1 ∷ []) $ fsplit ! $ move ! (1 ∷ []) $ fsplit ! $
-        -- [the rows; true; the records; the blocks; the third token; true; the second; the first; _23; …]
+        -- [the rows; true; the records; the blocks; the third token; true; the second; the first; _22; …]
         move ! (1 ∷ 5 ∷ 2 ∷ 0 ∷ 7 ∷ 6 ∷ 4 ∷ 3 ∷ []) $ drop ! $ drop ! $
-        begins l₀ l₁ l₂ l₃ l₄ l₅ l₆ l₇ l₈ l₉ l₁₀ l₁₁ l₁₂ l₁₃ l₁₄ l₁₅ l₁₆ l₁₇ l₁₈ l₁₉ l₂₀ l₂₁ l₂₂ l₂₃))))))))))))))))))))))))
+        begins l₀ l₁ l₂ l₃ l₄ l₅ l₆ l₇ l₈ l₉ l₁₀ l₁₁ l₁₂ l₁₃ l₁₄ l₁₅ l₁₆ l₁₇ l₁₈ l₁₉ l₂₀ l₂₁ l₂₂)))))))))))))))))))))))
 
 module _ {M : Type 1} (𝓤 : URA M) (H : Heap 𝓤) (A : Atoms 𝓤) (W : Given 𝓤 H A) (mem : Memory → SProp 𝓤) (run : Routine → Fun 𝓤) (𝓣 : Tables 𝓤 H) (known-empty : Triple 𝓤 (𝓣 .C #empty) (Empty 𝓤 H A mem run)) (known-first : Triple 𝓤 (𝓣 .C #first) (First 𝓤 H A mem run))
     (known-next : Triple 𝓤 (𝓣 .C #next) (Next 𝓤 H A mem run)) (known-note : Triple 𝓤 (𝓣 .C #note) (Note 𝓤 H A mem run)) (known-answer : Triple 𝓤 (𝓣 .C #answer) (Answer 𝓤 H A mem run)) where

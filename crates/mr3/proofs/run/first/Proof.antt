@@ -46,21 +46,25 @@ add-t14 c =
     let within = taken-within _ _ _ _ _ _ (k .before .before .test .ensures) _ (k .before .taken .ensures) in
     omega (arith, within .0, within .2, k .listed .ensures)
 
+empties-requires : tie.Need-empties-requires
+empties-requires c κs = search needs
+
 returns : tie.Need-returns
 unfolding none
 returns c =
-    let k = c .before .before .before in
+    let k = c .before .before .before .before in
     let a = k .before .before .before .before .args in
     let load = k .before .taken .ensures in
     record {
       verdict = k .before .before .test .ensures;
-      state = c .before .origin .ensures ∙ ap (λ (t : Counts). origin (loadOf t (a .blocks .now))) load;
+      state = c .before .before .origin .ensures ∙ ap (λ (t : Counts). origin (loadOf t (a .blocks .now))) load;
       summary = refl;
       at = refl;
       left = k .listed .ensures ∙ ap (λ (t : Counts). min (a .limit) (t .blocks)) load;
       empties = ap (λ (t : Counts). t .flows) load;
       go = refl;
+      change = c .empties .ensures;
     }
 
 pub first-spec : {M : Type 1} → statement M
-first-spec = tie.close (tie.spec test-requires taken-requires listed-requires origin-requires add-t14 returns)
+first-spec = tie.close (tie.spec test-requires taken-requires listed-requires origin-requires add-t14 empties-requires returns)

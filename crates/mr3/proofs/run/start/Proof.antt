@@ -49,13 +49,10 @@ enum-known-row c = search needs
 enum-told : tie.Need-enum-told
 enum-told c = search needs
 
-empties-requires : tie.Need-empties-requires
-empties-requires c κs = search needs
-
 returns : tie.Need-returns
 returns c =
-    let k = c .before .before .before .before .before .before .before .before .before .before .before in
-    never-done _ _ _ _ (k .pre .0) (k .pre .1) (stops _ _ _ _ _ _ (c .before .before .before .step .ensures) (c .before .enum-told .given .1))
+    let k = c .before .before .before .before .before .before .before .before .before .before in
+    never-done _ _ _ _ (k .pre .0) (k .pre .1) (stops _ _ _ _ _ _ (c .before .before .step .ensures) (c .enum-told .given .1))
 
 mul-write : tie.Need-mul-write
 mul-write c =
@@ -98,8 +95,8 @@ counted-requires c κs =
     let start = starts _ _ _ _ _ _ _ _ (c .before .before .before .before .before .before .before .before .before .before .step .ensures) (c .before .before .before .before .before .before .before .before .row .given .1) in
     summary-within _ _ _ _ (k .pre .0) (k .pre .1) _ start
 
-add-t22 : tie.Need-add-t22
-add-t22 c =
+add-t21 : tie.Need-add-t21
+add-t21 c =
     let k = c .before .before .before .before .before .before .before .before .before .before .before .before .before .before .before .before .before .before .before in
     omega (arith, k .pre .0 .runs .at, k .pre .0 .runs .few)
 
@@ -134,7 +131,6 @@ start-spec =
     step-requires
     enum-known-row
     enum-told
-    empties-requires
     returns
     mul-write
     sub-write
@@ -144,6 +140,6 @@ start-spec =
     sub-left
     adds-requires
     counted-requires
-    add-t22
+    add-t21
     same-length
     returns-2)
