@@ -1,9 +1,8 @@
-pub mod Calling
 pub mod FairCall
+pub mod Goes
 pub mod PlanCall
 pub mod PlanReads
-pub mod PlanSteps
-pub mod Recording
 pub mod Running
 pub mod Steps
 pub mod Unique
+pub mod Values

@@ -1,25 +1,31 @@
-// The flow table, one record for each flow, is made from the rows that are listed: each flow's record is emptied, and then
-// each row is added to its flow's. A function that takes the lent records is proved by hand, so there are two, and they
-// decide nothing.
+// The flow table, one record for each flow: what a start changes in it.
 ghost use mathlib.Core.Path.{_≡_};
 ghost use Prim.Native.Nat.{_+_, _*_, _<_, _≤_};
 ghost use lib.Dec.{ltb};
 ghost use lib.ListN.{getD, length};
 ghost use Rattle.rules.specs.Counts.{one, unlisted};
-ghost use Rattle.mr3.specs.Changes.{adds, AllFit, changed as Changes·changed, changeOf, changedAll, Fits, noted, Readable, turnAbove};
+ghost use Rattle.mr3.specs.Changes.{adds as Changes·adds, changed as Changes·changed, empties as Changes·empties, Fits, noted};
 use rules::record::FlowRecord;
+use rules::row::Row;
 
-// What becomes of a record next.
+// What becomes of a flow's record: it is emptied, or a block is added to it, with the turns that it begins and its dominant time.
 pub struct Change {
-    // Whether there is a change; the others say nothing where there is none.
-    pub go: bool,
     pub flow: usize,
-    // The record is emptied. Otherwise a block is added to it, with the turns that it begins and its dominant time.
     pub empty: bool,
     pub turns: u64,
     pub time: u64,
-    // The changes after this one.
-    pub left: usize,
+}
+
+// A flow's record is emptied.
+pub fn empties(flow: usize) -> Change
+    ensures { λ r. ⌜ r ≡ Changes·empties flow ⌝ }
+{
+    Change {
+        flow,
+        empty: true,
+        turns: 0,
+        time: 0,
+    }
 }
 
 // How many turns a row of this turn begins, after one of the turn `before`.
@@ -29,63 +35,18 @@ fn begins(before: u64, turn: u64) -> u64
     if before < turn { 1 } else { 0 }
 }
 
-// The turn of the row above, and 0 above the first.
-fn turn_above(rows: &[u64], k: usize) -> u64
-    requires { ⌜ (k < 1024) × (15 * k ≤ length (now rows)) ⌝ }
-    ensures { λ r. ⌜ r ≡ turnAbove (now (rows .entry)) k ⌝ }
+// A row is added to its flow's record, after one of the turn `before`.
+pub fn adds(blocks: &[u32], before: u64, row: Row) -> Change
+    requires { ⌜ (row .block < 1024) × (6 * row .block + 6 ≤ length (now blocks)) ⌝ }
+    ensures { λ r. ⌜ r ≡ Changes·adds (now (blocks .entry)) before row ⌝ }
 {
-    if k == 0 {
-        return 0;
-    }
-    rows[15 * (k - 1) + 3]
-}
-
-// Row k is added to its flow's record.
-fn add(blocks: &[u32], rows: &[u64], k: usize, left: usize) -> Change
-    requires { ⌜ (k < 1024) × (15 * k + 15 ≤ length (now rows)) × (getD (now rows) (15 * k) 0 < 1024) × (6 * getD (now rows) (15 * k) 0 + 6 ≤ length (now blocks)) ⌝ }
-    ensures { λ r. ⌜ r ≡ adds (now (blocks .entry)) (now (rows .entry)) k left ⌝ }
-{
-    let at = 15 * k;
-    let block = rows[at] as usize;
-    let flow = rows[at + 1] as usize;
-    let turns = begins(turn_above(rows, k), rows[at + 3]);
-    let time = dominant::time(load::block::at(&blocks[6 * block..]));
+    let at = 6 * row.block as usize;
+    let time = dominant::time(load::block::at(&blocks[at..]));
     Change {
-        go: true,
-        flow,
+        flow: row.flow as usize,
         empty: false,
-        turns,
+        turns: begins(before, row.turn),
         time: time as u64,
-        left,
-    }
-}
-
-// The next change, where so many are left: the last ones add the rows in their order, those before empty the records.
-pub fn next(blocks: &[u32], rows: &[u64], listed: usize, left: usize) -> Change
-    requires { ⌜ Readable listed (now blocks) (now rows) ⌝ }
-    ensures { λ r. ⌜ r ≡ changeOf (now (blocks .entry)) (now (rows .entry)) listed left ⌝ }
-{
-    if left == 0 {
-        return Change {
-            go: false,
-            flow: 0,
-            empty: true,
-            turns: 0,
-            time: 0,
-            left: 0,
-        };
-    }
-    let after = left - 1;
-    if after < listed {
-        return add(blocks, rows, listed - left, after);
-    }
-    Change {
-        go: true,
-        flow: after - listed,
-        empty: true,
-        turns: 0,
-        time: 0,
-        left: after,
     }
 }
 
@@ -108,23 +69,11 @@ fn changed(old: FlowRecord, change: Change) -> FlowRecord
     }
 }
 
-// Changes the record of one flow.
+// Changes the record of one flow. A function that takes the lent records is proved by hand, so this one decides nothing.
 pub fn note(flows: &mut [FlowRecord], change: Change)
     requires { ⌜ (change .flow < length (now flows)) × Fits (getD (now flows) (change .flow) unlisted) change ⌝ }
     ensures { λ _. ⌜ now (flows .exit) ≡ noted (now (flows .entry)) change ⌝ }
 {
     let r = changed(flows[change.flow], change);
     flows[change.flow] = r;
-}
-
-// Makes all the changes.
-pub fn fill(flows: &mut [FlowRecord], blocks: &[u32], rows: &[u64], listed: usize, changes: usize)
-    requires { ⌜ Readable listed (now blocks) (now rows) × AllFit (now blocks) (now rows) listed changes (now flows) ⌝ }
-    ensures { λ _. ⌜ now (flows .exit) ≡ changedAll (now (blocks .entry)) (now (rows .entry)) listed changes (now (flows .entry)) ⌝ }
-{
-    let mut change = next(blocks, rows, listed, changes);
-    while change.go {
-        note(flows, change);
-        change = next(blocks, rows, listed, change.left);
-    }
 }

@@ -10,6 +10,10 @@ use Rattle.waiting.specs.declared.Head.the-variants.{Flow, Empty}
 abbrev pub most : ℕ
 most = 64
 
+-- how many words of storage that takes, for proofs of callers that have it among their locals
+abbrev pub size : ℕ
+size = 129
+
 -- no more entries than that, and room for one more
 abbrev pub Fits : List Entry → Type 0
 Fits es = length es ≤ most

@@ -1,0 +1,23 @@
+-- `mr3::run::answer` meets its contract: the verdict picks the answer.
+use mathlib.Core.Path.{refl}
+use borrow.Author.Needs.{needs}
+use Rattle.mr3.specs.Going.{answered}
+use Rattle.mr3.proofs.run.answer.Statement.{statement}
+use Rattle.mr3.proofs.run.answer.Tie as tie
+
+enum-known-verdict : tie.Need-enum-known-verdict
+enum-known-verdict c = search needs
+
+returns : tie.Need-returns
+unfolding answered
+returns c = rw (c .before .verdict .given .1) refl
+
+enum-told : tie.Need-enum-told
+enum-told c = search needs
+
+returns-2 : tie.Need-returns-2
+unfolding answered
+returns-2 c = rw (c .before .before .enum-told .given .1) refl
+
+pub answer-spec : {M : Type 1} → statement M
+answer-spec = tie.close (tie.spec enum-known-verdict returns enum-told returns-2)
