@@ -47,10 +47,14 @@ unfoldable pub rowLine : List ℕ → ℕ → Row → List ℕ
 rowLine name stages r =
     shown name ++ field (r .block) ++ field (r .round) ++ field (r .turn) ++ field (r .balance) ++ field (r .hold) ++ field (r .stage) ++ runs stages (r .way) ++ lineEnd
 
--- One line a row, each with the name shown for its flow. The program has an empty standing list.
+-- A row of a file's plan has the name shown for its flow. The program has an empty standing list.
+abbrev pub namedRow : List ℕ → ℕ → Row → List ℕ
+namedRow file stages r = rowLine (shownName file [] (r .flow)) stages r
+
+-- One line a row.
 unfoldable pub rowLines : List ℕ → ℕ → List Row → List ℕ
 rowLines file stages [] = []
-rowLines file stages (r ∷ rs) = rowLine (shownName file [] (r .flow)) stages r ++ rowLines file stages rs
+rowLines file stages (r ∷ rs) = namedRow file stages r ++ rowLines file stages rs
 
 -- A refusal: the word refused (r e f u s e d), a space and the number.
 unfoldable pub refusedLine : Refusal → List ℕ

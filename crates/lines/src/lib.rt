@@ -5,7 +5,7 @@ ghost use lib.ListN.{length};
 ghost use Rattle.loadfile.specs.Calls.{shownName};
 ghost use Rattle.rules.specs.Rows.{rowAt, rowsIn};
 ghost use Rattle.line.specs.Pages.{Put, room};
-ghost use Rattle.lines.specs.Lines.{countsLine, refusedLine, rowLine, rowLines, runs as Lines·runs, shown as Lines·shown, startFinish};
+ghost use Rattle.lines.specs.Lines.{countsLine, namedRow, refusedLine, rowLines, runs as Lines·runs, shown as Lines·shown, startFinish};
 use line::Page;
 use load::refusal::Refusal;
 use load::refusal::Verdict;
@@ -76,7 +76,7 @@ fn runs(out: &mut Page, at: usize, stages: usize, words: &[u64]) -> usize
 // The row at the start of these words: block, flow, round, turn, balance, hold, dominant stage, and the runs.
 fn row(out: &mut Page, at: usize, file: &[u8], stages: usize, words: &[u64]) -> usize
     requires { ⌜ 15 ≤ length (now words) ⌝ }
-    ensures { λ r. ⌜ Put (now (out .entry)) at (rowLine (shownName (now (file .entry)) [] (rowAt (now (words .entry)) .flow)) stages (rowAt (now (words .entry)))) (now (out .exit)) r ⌝ }
+    ensures { λ r. ⌜ Put (now (out .entry)) at (namedRow (now (file .entry)) stages (rowAt (now (words .entry)))) (now (out .exit)) r ⌝ }
 {
     let at = name(out, at, file, words[1]);
     let at = line::spaced(out, at, words[0]);
