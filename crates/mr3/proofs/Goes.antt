@@ -2,9 +2,8 @@
 -- thing noted keeps it, and that at the end it is what the call promises. It says what the rest of the plan will make of the
 -- tables and the counts; of a refused call there is no rest.
 use Prim.Native.Nat.{ℕ, zero, suc, _+_, _-_, _*_, _≤_, _<_, min}
-use mathlib.Core.Bool.{Bool, true, false, true≢false}
+use mathlib.Core.Bool.{true≢false}
 use mathlib.Core.List.{List, [], _∷_, _++_, append-assoc, append-nil}
-use mathlib.Core.Option.{none, some}
 use mathlib.Core.Path.{_≡_, refl, sym, ap, _∙_}
 use native.Mathlib.Omega.{arith}
 use borrow.Author.Tests.{eqb-false, eqb-true}
@@ -18,24 +17,22 @@ use Rattle.load.specs.declared.refusal.Verdict.the-variants as verdict
 use Rattle.dominant.specs.Dominant.{dominantTime}
 use Rattle.load.proofs.Cases.{cases}
 use Rattle.load.proofs.Parts.{drop-over, length-over, over, take-over}
-use Rattle.rules.specs.declared.answer.Planned.{Planned}
 use Rattle.rules.specs.declared.record.FlowRecord.{FlowRecord}
 use Rattle.rules.specs.declared.row.Row.{Row}
 use Rattle.rules.specs.Calls.{answerOf, flowsAfter, Plans, planVerdict, rowsAfter}
 use Rattle.rules.specs.Counts as counts
-use Rattle.rules.specs.Counts.{added, counted, one, recorded, records, summary, unlisted}
+use Rattle.rules.specs.Counts.{added, counted, recorded, records, summary, unlisted}
 use Rattle.rules.specs.Load.{blockAt, Load, loadOf}
-use Rattle.rules.specs.Plan.{origin, plan, rowsFrom, run, Started, State, step}
+use Rattle.rules.specs.Plan.{origin, plan, run, State}
 use Rattle.rules.specs.Rows.{rowsWords, rowWords, wayWords}
-use Rattle.rules.specs.Within.{Accepted, latest, RowWithin, StateWithin}
 use Rattle.rules.proofs.Accepting.{accepted}
 use Rattle.rules.proofs.Blocks.{dominant-within}
-use Rattle.rules.proofs.Bounds.{origin-within, step-within}
+use Rattle.rules.proofs.Bounds.{origin-within}
 use Rattle.rules.proofs.Whole.{plan-length}
 use Rattle.mr3.specs.declared.run.Going.{Going}
 use Rattle.mr3.specs.declared.run.Running.{Running}
 use Rattle.mr3.specs.Changes.{adds, changed, empties, Fits, noted}
-use Rattle.mr3.specs.Going.{answered, Begins, Does, Empties, more, Moves, reached, Ready, Starts, taken}
+use Rattle.mr3.specs.Going.{answered, Begins, Does, Empties, Moves, reached, Ready, Starts, taken}
 use Rattle.mr3.proofs.Running.{bounds, next-row, one-most, row-room, runs-on, to-start}
 
 -- ---- the records still to be emptied, the first j

@@ -8,7 +8,6 @@ use native.Mathlib.Numerals.{sub-one}
 use native.Mathlib.Omega.{arith}
 use lib.Dec.{ltb}
 use lib.ListN.{length}
-use Rattle.rules.specs.declared.row.Row.{Row}
 use Rattle.rules.specs.Counts.{counted, one}
 use Rattle.rules.specs.Load.{Load}
 use Rattle.rules.specs.Plan.{rowsFrom, run, Started, State, step}

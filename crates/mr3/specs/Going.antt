@@ -22,7 +22,6 @@ use Rattle.rules.specs.Within.{Accepted, StateWithin}
 use Rattle.decide.specs.State.{stateOf}
 use Rattle.mr3.specs.declared.run.Going.{Going}
 use Rattle.mr3.specs.declared.run.Running.{Running}
-use Rattle.mr3.specs.Changes as changes
 use Rattle.mr3.specs.Changes.{adds, empties}
 
 -- the definition's state that the planner and its three arrays stand for
@@ -41,13 +40,13 @@ taken c (verdict.Refused r) = record { stages = 1; flows = 0; blocks = 0 }
 -- before the first start
 pub record Begins (c : Counts) (n : ℕ) (table : List ℕ) (flowRecords rowWords : ℕ) (g : Going) (list : List ℕ) : Type 0 where
   pub verdict : g .verdict ≡ planVerdict c n table flowRecords rowWords
+  pub change : g .change ≡ empties 0
   pub state : reached g list (replicate 64 0) (replicate 64 0) ≡ origin (loadOf (taken c (g .verdict)) table)
   pub summary : g .running .summary ≡ none
   pub at : g .running .at ≡ 0
   pub left : g .running .left ≡ min n (taken c (g .verdict) .blocks)
   pub empties : g .empties ≡ taken c (g .verdict) .flows
   pub go : g .go ≡ more g
-  pub change : g .change ≡ changes.empties 0
 
 -- After so many starts: there are as many to come as are left, and words for their rows, and the sums fit 64 bits.
 pub record Runs (L : Load) (r : Running) (s : State) (rowWords : ℕ) : Type 0 where

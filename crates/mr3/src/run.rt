@@ -101,7 +101,9 @@ fn start(
 ) -> Going
     requires { ⌜ Ready (loadOf counts (now blocks)) going (reached going (now list) (now from) (now gate)) (length (now rows)) ⌝ }
     requires { ⌜ going .empties ≡ 0 ⌝ }
-    ensures { λ r. ⌜ Moves (loadOf counts (now (blocks .entry))) going (reached going (now (list .entry)) (now (from .entry)) (now (gate .entry))) (now (rows .entry)) r (reached r (now (list .exit)) (now (from .exit)) (now (gate .exit))) (now (rows .exit)) ⌝ }
+    ensures { λ r. ⌜ Moves (loadOf counts (now (blocks .entry)))
+        going (reached going (now (list .entry)) (now (from .entry)) (now (gate .entry))) (now (rows .entry))
+        r (reached r (now (list .exit)) (now (from .exit)) (now (gate .exit))) (now (rows .exit)) ⌝ }
 {
     let running = going.running;
     let planner = running.planner;
@@ -139,7 +141,9 @@ pub fn next(
     rows: &mut [u64],
 ) -> Going
     requires { ⌜ Ready (loadOf counts (now blocks)) going (reached going (now list) (now from) (now gate)) (length (now rows)) ⌝ }
-    ensures { λ r. ⌜ Moves (loadOf counts (now (blocks .entry))) going (reached going (now (list .entry)) (now (from .entry)) (now (gate .entry))) (now (rows .entry)) r (reached r (now (list .exit)) (now (from .exit)) (now (gate .exit))) (now (rows .exit)) ⌝ }
+    ensures { λ r. ⌜ Moves (loadOf counts (now (blocks .entry)))
+        going (reached going (now (list .entry)) (now (from .entry)) (now (gate .entry))) (now (rows .entry))
+        r (reached r (now (list .exit)) (now (from .exit)) (now (gate .exit))) (now (rows .exit)) ⌝ }
 {
     if going.empties == 0 {
         return start(counts, blocks, going, list, from, gate, rows);

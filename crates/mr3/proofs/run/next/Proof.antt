@@ -38,8 +38,9 @@ module _ (L : Load) (g : Going) (s : State) (rows : List ℕ) (gThen : Going) (s
 
 returns-2 : tie.Need-returns-2
 returns-2 c =
+    let a = c .before .before .before .before .before .before .before .before .args in
     record {
-      does = does-empty _ _ _ _ _ _ _ _ (omega arith) (record { change = c .empties .ensures; empties = refl; running = refl; state = refl; words = refl });
+      does = does-empty _ _ _ _ _ _ _ (a .going .empties) (omega arith) (record { change = c .empties .ensures; empties = refl; running = refl; state = refl; words = refl });
       verdict = refl;
       go = refl;
     }

@@ -80,7 +80,7 @@ write-requires c κs =
 sub-left : tie.Need-sub-left
 sub-left c =
     let k = c .before .before .before .before .before .before .before .before .before .before .before .before .before .before .before .before .before in
-    to-start _ _ _ _ (k .pre .0) (k .pre .1)
+    omega (arith, to-start _ _ _ _ (k .pre .0) (k .pre .1))
 
 adds-requires : tie.Need-adds-requires
 adds-requires c κs =
