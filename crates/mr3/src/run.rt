@@ -38,13 +38,13 @@ pub struct Going {
     pub running: Running,
 }
 
-// The counts of the load that is planned: after a refusal, of one with no flow and no block.
+// The counts of the load that is planned; after a refusal they are 0.
 fn taken(counts: Counts, verdict: Verdict) -> Counts
     ensures { λ r. ⌜ r ≡ Going·taken counts verdict ⌝ }
 {
     let Verdict::Accepted = verdict else {
         return Counts {
-            stages: 1,
+            stages: 0,
             flows: 0,
             blocks: 0,
         };
@@ -52,7 +52,7 @@ fn taken(counts: Counts, verdict: Verdict) -> Counts
     counts
 }
 
-// Before the first start.
+// Before the first start. Nothing has been noted yet.
 pub fn first(
     counts: Counts,
     limit: u64,
@@ -108,7 +108,7 @@ fn start(
     let running = going.running;
     let planner = running.planner;
     let Next::Start(row, then) = step::step(counts, blocks, planner, list, from, gate) else {
-        // There is a start for each one that is left.
+        // This is never reached: there is a start for each one that is left.
         return going;
     };
     let at = running.at;
