@@ -32,10 +32,10 @@ reached g list from gate = stateOf (g .running .planner) list from gate
 abbrev pub more : Going → Bool
 more g = ltb 0 (g .empties + g .running .left)
 
--- The counts of the load that is planned; after a refusal they are 0.
+-- The counts of the load that is planned: after a refusal, of one with no flow and no block.
 unfoldable pub taken : Counts → Verdict → Counts
 taken c verdict.Accepted = c
-taken c (verdict.Refused r) = record { stages = 0; flows = 0; blocks = 0 }
+taken c (verdict.Refused r) = record { stages = 1; flows = 0; blocks = 0 }
 
 -- Before the first start nothing has been noted, and all records are to be emptied.
 pub record Begins (c : Counts) (n : ℕ) (table : List ℕ) (flowRecords rowWords : ℕ) (g : Going) (list : List ℕ) : Type 0 where

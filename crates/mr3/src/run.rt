@@ -38,13 +38,13 @@ pub struct Going {
     pub running: Running,
 }
 
-// The counts of the load that is planned; after a refusal they are 0.
+// The counts of the load that is planned: after a refusal, of one with no flow and no block.
 fn taken(counts: Counts, verdict: Verdict) -> Counts
     ensures { λ r. ⌜ r ≡ Going·taken counts verdict ⌝ }
 {
     let Verdict::Accepted = verdict else {
         return Counts {
-            stages: 0,
+            stages: 1,
             flows: 0,
             blocks: 0,
         };
