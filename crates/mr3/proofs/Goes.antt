@@ -29,11 +29,11 @@ use Rattle.rules.proofs.Accepting.{accepted}
 use Rattle.rules.proofs.Blocks.{dominant-within}
 use Rattle.rules.proofs.Bounds.{origin-within}
 use Rattle.rules.proofs.Whole.{plan-length}
-use Rattle.mr3.specs.declared.run.Going.{Going}
-use Rattle.mr3.specs.declared.run.Running.{Running}
-use Rattle.mr3.specs.Changes.{adds, changed, empties, Fits, noted}
-use Rattle.mr3.specs.Going.{answered, Begins, Does, Empties, Moves, reached, Ready, Starts, taken}
-use Rattle.mr3.proofs.Running.{bounds, next-row, one-most, row-room, runs-on, to-start}
+use Rattle.progress.specs.declared.run.Going.{Going}
+use Rattle.progress.specs.declared.run.Running.{Running}
+use Rattle.progress.specs.Changes.{adds, changed, empties, Fits, noted}
+use Rattle.progress.specs.Going.{answered, Begins, Does, Empties, Moves, reached, Ready, Starts, taken}
+use Rattle.progress.proofs.Running.{bounds, next-row, one-most, row-room, runs-on, to-start}
 
 -- ---- the records still to be emptied, the first j
 abbrev emptied : ℕ → List FlowRecord → List FlowRecord

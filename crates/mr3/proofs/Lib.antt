@@ -2,7 +2,6 @@ pub mod FairCall
 pub mod Goes
 pub mod PlanCall
 pub mod PlanReads
-pub mod Running
 pub mod Steps
 pub mod Unique
 pub mod Values

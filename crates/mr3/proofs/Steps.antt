@@ -40,19 +40,19 @@ use Rattle.rules.proofs.answer.Planned.Laws as P′
 use Rattle.rules.proofs.record.FlowRecord as T
 use Rattle.waiting.specs.Entries.{entries, size}
 use Rattle.waiting.proofs.empty as empty
-use Rattle.mr3.specs.declared.record.Change.{Change}
-use Rattle.mr3.specs.declared.run.Going.{Going}
-use Rattle.mr3.specs.Changes.{Fits, noted}
-use Rattle.mr3.specs.Going.{answered, Begins, Moves, reached, Ready}
-use Rattle.mr3.proofs.record.Change as U
-use Rattle.mr3.proofs.record.Change.Laws as U′
-use Rattle.mr3.proofs.run.Going as G
-use Rattle.mr3.proofs.run.Going.Laws as G′
+use Rattle.progress.specs.declared.change.Change.{Change}
+use Rattle.progress.specs.declared.run.Going.{Going}
+use Rattle.progress.specs.Changes.{Fits, noted}
+use Rattle.progress.specs.Going.{answered, Begins, Moves, reached, Ready}
+use Rattle.progress.proofs.change.Change as U
+use Rattle.progress.proofs.change.Change.Laws as U′
+use Rattle.progress.proofs.run.Going as G
+use Rattle.progress.proofs.run.Going.Laws as G′
 use Rattle.mr3.proofs.Values.{goingVal, IsGoing}
 use Rattle.mr3.proofs.record.note as note
-use Rattle.mr3.proofs.run.answer as answer
-use Rattle.mr3.proofs.run.first as first
-use Rattle.mr3.proofs.run.next as next
+use Rattle.progress.proofs.run.answer as answer
+use Rattle.progress.proofs.run.first as first
+use Rattle.progress.proofs.run.next as next
 
 -- the three arrays' types
 abbrev pub Listed : RattleType

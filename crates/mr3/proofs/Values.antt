@@ -17,12 +17,12 @@ use denote.Laws.{Is}
 use denote.Struct.Laws as LL
 use Rattle.load.proofs.refusal.Verdict.Laws as V′
 use Rattle.walks.proofs.Fields.{Struct, reads-field}
-use Rattle.mr3.specs.declared.run.Going.{Going}
-use Rattle.mr3.proofs.record.Change as U
-use Rattle.mr3.proofs.record.Change.Laws as U′
-use Rattle.mr3.proofs.run.Going as G
-use Rattle.mr3.proofs.run.Going.Laws as G′
-use Rattle.mr3.proofs.run.Running.Laws as R′
+use Rattle.progress.specs.declared.run.Going.{Going}
+use Rattle.progress.proofs.change.Change as U
+use Rattle.progress.proofs.change.Change.Laws as U′
+use Rattle.progress.proofs.run.Going as G
+use Rattle.progress.proofs.run.Going.Laws as G′
+use Rattle.progress.proofs.run.Running.Laws as R′
 
 unfoldable pub goingTy : Ty
 goingTy = G′.mir

@@ -2,9 +2,9 @@
 ghost use Rattle.rules.specs.Calls.{Plans};
 
 mod record;
-mod run;
 
 use load::counts::Counts;
+use progress::run;
 use rules::answer::Planned;
 use rules::record::FlowRecord;
 

@@ -60,9 +60,9 @@ use Rattle.waiting.proofs.empty.Symbol.{name as #empty}
 use Rattle.waiting.proofs.empty.Met as empty-thm
 use Rattle.walks.proofs.Locals.{holds, lends-whole, whole-back, leaves-room}
 use Rattle.walks.proofs.Relend.{relends, unlends}
-use Rattle.mr3.specs.declared.run.Going.{Going}
-use Rattle.mr3.specs.Changes.{noted}
-use Rattle.mr3.specs.Going.{answered, reached}
+use Rattle.progress.specs.declared.run.Going.{Going}
+use Rattle.progress.specs.Changes.{noted}
+use Rattle.progress.specs.Going.{answered, reached}
 use Rattle.mr3.proofs.Goes as goes
 use Rattle.mr3.proofs.Goes.{Goes, goes-ready, goes-on, goes-ends}
 use Rattle.mr3.proofs.Steps.{Listed, From, Gate, Empty, First, Next, Note, Answer, to-empty, goes-empty, after-empty, gives-empty, to-first, goes-first, after-first, gives-first, to-next, goes-next, after-next, gives-next, to-note, goes-note, after-note, gives-note, to-answer, goes-answer, after-answer, gives-answer}
@@ -70,15 +70,15 @@ use Rattle.mr3.proofs.Values.{goingTy, goingVal, IsGoing, going-typed, 
 use Rattle.mr3.proofs.record.note.Symbol as note-def
 use Rattle.mr3.proofs.record.note.Symbol.{name as #note}
 use Rattle.mr3.proofs.record.note.Met as note-thm
-use Rattle.mr3.proofs.run.answer.Symbol as answer-def
-use Rattle.mr3.proofs.run.answer.Symbol.{name as #answer}
-use Rattle.mr3.proofs.run.answer.Met as answer-thm
-use Rattle.mr3.proofs.run.first.Symbol as first-def
-use Rattle.mr3.proofs.run.first.Symbol.{name as #first}
-use Rattle.mr3.proofs.run.first.Met as first-thm
-use Rattle.mr3.proofs.run.next.Symbol as next-def
-use Rattle.mr3.proofs.run.next.Symbol.{name as #next}
-use Rattle.mr3.proofs.run.next.Met as next-thm
+use Rattle.progress.proofs.run.answer.Symbol as answer-def
+use Rattle.progress.proofs.run.answer.Symbol.{name as #answer}
+use Rattle.progress.proofs.run.answer.Met as answer-thm
+use Rattle.progress.proofs.run.first.Symbol as first-def
+use Rattle.progress.proofs.run.first.Symbol.{name as #first}
+use Rattle.progress.proofs.run.first.Met as first-thm
+use Rattle.progress.proofs.run.next.Symbol as next-def
+use Rattle.progress.proofs.run.next.Symbol.{name as #next}
+use Rattle.progress.proofs.run.next.Met as next-thm
 use Rattle.mr3.proofs.plan.Key.{name as #plan}
 use Rattle.mr3.proofs.plan as plan
 use Rattle.mr3.proofs.plan.Statement as stated
@@ -356,7 +356,7 @@ plan-spec 𝓤 H 𝓜 𝓖 𝓡 =
     (tables 𝓤 H 𝓜 𝓡 code.env .C) (tables 𝓤 H 𝓜 𝓡 code.env .Λ) #plan code.function (code.unfolded 𝓤 H 𝓜 𝓡)
     (plan-meets 𝓤 H (𝓖 .A) (givenOf 𝓤 H 𝓜 𝓖) (𝓜 .mem) (𝓡 .run) (tablesOf 𝓤 H 𝓜 (tables 𝓤 H 𝓜 𝓡 code.env))
     (cited 𝓤 H (Empty 𝓤 H (𝓖 .A) (𝓜 .mem) (𝓡 .run)) 𝓜 𝓡 code.env #empty empty-def.routine code.calls-waiting·empty (empty-thm.met 𝓤 H 𝓜 𝓖 𝓡))
-    (cited 𝓤 H (First 𝓤 H (𝓖 .A) (𝓜 .mem) (𝓡 .run)) 𝓜 𝓡 code.env #first first-def.routine code.calls-mr3·run·first (first-thm.met 𝓤 H 𝓜 𝓖 𝓡))
-    (cited 𝓤 H (Next 𝓤 H (𝓖 .A) (𝓜 .mem) (𝓡 .run)) 𝓜 𝓡 code.env #next next-def.routine code.calls-mr3·run·next (next-thm.met 𝓤 H 𝓜 𝓖 𝓡))
+    (cited 𝓤 H (First 𝓤 H (𝓖 .A) (𝓜 .mem) (𝓡 .run)) 𝓜 𝓡 code.env #first first-def.routine code.calls-progress·run·first (first-thm.met 𝓤 H 𝓜 𝓖 𝓡))
+    (cited 𝓤 H (Next 𝓤 H (𝓖 .A) (𝓜 .mem) (𝓡 .run)) 𝓜 𝓡 code.env #next next-def.routine code.calls-progress·run·next (next-thm.met 𝓤 H 𝓜 𝓖 𝓡))
     (cited 𝓤 H (Note 𝓤 H (𝓖 .A) (𝓜 .mem) (𝓡 .run)) 𝓜 𝓡 code.env #note note-def.routine code.calls-mr3·record·note (note-thm.met 𝓤 H 𝓜 𝓖 𝓡))
-    (cited 𝓤 H (Answer 𝓤 H (𝓖 .A) (𝓜 .mem) (𝓡 .run)) 𝓜 𝓡 code.env #answer answer-def.routine code.calls-mr3·run·answer (answer-thm.met 𝓤 H 𝓜 𝓖 𝓡)))
+    (cited 𝓤 H (Answer 𝓤 H (𝓖 .A) (𝓜 .mem) (𝓡 .run)) 𝓜 𝓡 code.env #answer answer-def.routine code.calls-progress·run·answer (answer-thm.met 𝓤 H 𝓜 𝓖 𝓡)))

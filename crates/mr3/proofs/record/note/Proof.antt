@@ -43,14 +43,14 @@ use Rattle.rules.specs.declared.record.FlowRecord.{FlowRecord}
 use Rattle.rules.specs.Counts.{unlisted}
 use Rattle.rules.proofs.record.FlowRecord as T
 use Rattle.rules.proofs.record.FlowRecord.Laws as T′
-use Rattle.mr3.specs.declared.record.Change.{Change}
-use Rattle.mr3.specs.Changes.{changed, Fits, noted}
-use Rattle.mr3.proofs.record.Change as U
-use Rattle.mr3.proofs.record.Change.Laws as U′
-use Rattle.mr3.proofs.record.changed as changed′
-use Rattle.mr3.proofs.record.changed.Symbol as changed-def
-use Rattle.mr3.proofs.record.changed.Symbol.{name as #changed}
-use Rattle.mr3.proofs.record.changed.Met as changed-thm
+use Rattle.progress.specs.declared.change.Change.{Change}
+use Rattle.progress.specs.Changes.{changed, Fits, noted}
+use Rattle.progress.proofs.change.Change as U
+use Rattle.progress.proofs.change.Change.Laws as U′
+use Rattle.progress.proofs.change.changed as changed′
+use Rattle.progress.proofs.change.changed.Symbol as changed-def
+use Rattle.progress.proofs.change.changed.Symbol.{name as #changed}
+use Rattle.progress.proofs.change.changed.Met as changed-thm
 use Rattle.mr3.proofs.record.note.Key.{name as #note}
 use Rattle.mr3.proofs.record.note as note
 use Rattle.mr3.proofs.record.note.Statement as stated
@@ -169,4 +169,4 @@ note-spec 𝓤 H 𝓜 𝓖 𝓡 =
     entered 𝓤 H (tripleOf 𝓤 H (𝓖 .A) note.signature (note.spec 𝓤 H (𝓖 .A) (𝓜 .mem) (𝓡 .run)))
     (tables 𝓤 H 𝓜 𝓡 code.env .C) (tables 𝓤 H 𝓜 𝓡 code.env .Λ) #note code.function (code.unfolded 𝓤 H 𝓜 𝓡)
     (note-meets 𝓤 H (𝓖 .A) (givenOf 𝓤 H 𝓜 𝓖) (𝓜 .mem) (𝓡 .run) (tablesOf 𝓤 H 𝓜 (tables 𝓤 H 𝓜 𝓡 code.env))
-    (cited 𝓤 H (Changed 𝓤 H (𝓖 .A) (𝓜 .mem) (𝓡 .run)) 𝓜 𝓡 code.env #changed changed-def.routine code.calls-mr3·record·changed (changed-thm.met 𝓤 H 𝓜 𝓖 𝓡)))
+    (cited 𝓤 H (Changed 𝓤 H (𝓖 .A) (𝓜 .mem) (𝓡 .run)) 𝓜 𝓡 code.env #changed changed-def.routine code.calls-progress·change·changed (changed-thm.met 𝓤 H 𝓜 𝓖 𝓡)))

@@ -1,9 +1,9 @@
--- `mr3::run::taken` meets its contract: the verdict picks the counts.
+-- `progress::run::taken` meets its contract: the verdict picks the counts.
 use mathlib.Core.Path.{refl}
 use borrow.Author.Needs.{needs}
-use Rattle.mr3.specs.Going.{taken}
-use Rattle.mr3.proofs.run.taken.Statement.{statement}
-use Rattle.mr3.proofs.run.taken.Tie as tie
+use Rattle.progress.specs.Going.{taken}
+use Rattle.progress.proofs.run.taken.Statement.{statement}
+use Rattle.progress.proofs.run.taken.Tie as tie
 
 enum-told : tie.Need-enum-told
 enum-told c = search needs

@@ -1,9 +1,9 @@
--- `mr3::run::answer` meets its contract: the verdict picks the answer.
+-- `progress::run::answer` meets its contract: the verdict picks the answer.
 use mathlib.Core.Path.{refl}
 use borrow.Author.Needs.{needs}
-use Rattle.mr3.specs.Going.{answered}
-use Rattle.mr3.proofs.run.answer.Statement.{statement}
-use Rattle.mr3.proofs.run.answer.Tie as tie
+use Rattle.progress.specs.Going.{answered}
+use Rattle.progress.proofs.run.answer.Statement.{statement}
+use Rattle.progress.proofs.run.answer.Tie as tie
 
 enum-known-verdict : tie.Need-enum-known-verdict
 enum-known-verdict c = search needs

@@ -20,9 +20,9 @@ use Rattle.rules.specs.Plan.{origin, run, Started, State, step}
 use Rattle.rules.specs.Rows.{rowWords}
 use Rattle.rules.specs.Within.{Accepted, StateWithin}
 use Rattle.decide.specs.State.{stateOf}
-use Rattle.mr3.specs.declared.run.Going.{Going}
-use Rattle.mr3.specs.declared.run.Running.{Running}
-use Rattle.mr3.specs.Changes.{adds, empties}
+use Rattle.progress.specs.declared.run.Going.{Going}
+use Rattle.progress.specs.declared.run.Running.{Running}
+use Rattle.progress.specs.Changes.{adds, empties}
 
 -- the definition's state that the planner and its three arrays stand for
 abbrev pub reached : Going → List ℕ → List ℕ → List ℕ → State

@@ -1,4 +1,4 @@
--- `mr3::run::first` meets its contract: the tests pick the load that is planned, which is within the limits, and its planner is the
+-- `progress::run::first` meets its contract: the tests pick the load that is planned, which is within the limits, and its planner is the
 -- definition's.
 use Prim.Native.Nat.{ℕ, min}
 use mathlib.Core.List.{List}
@@ -14,9 +14,9 @@ use Rattle.rules.specs.Load.{loadOf}
 use Rattle.rules.specs.Plan.{origin}
 use Rattle.rules.specs.Within.{Accepted}
 use Rattle.rules.proofs.Accepting.{accepted}
-use Rattle.mr3.specs.Going.{taken}
-use Rattle.mr3.proofs.run.first.Statement.{statement}
-use Rattle.mr3.proofs.run.first.Tie as tie
+use Rattle.progress.specs.Going.{taken}
+use Rattle.progress.proofs.run.first.Statement.{statement}
+use Rattle.progress.proofs.run.first.Tie as tie
 
 taken-accepted : (c : Counts) (n : ℕ) (table : List ℕ) (flowRecords rowWords : ℕ) (v : Verdict) → v ≡ planVerdict c n table flowRecords rowWords
     → (t : Counts) → t ≡ taken c v → Accepted (loadOf t table)

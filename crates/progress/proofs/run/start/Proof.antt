@@ -1,4 +1,4 @@
--- `mr3::run::start` meets its contract: the start is the definition's, and what it asks for is there, by the laws of `Running`.
+-- `progress::run::start` meets its contract: the start is the definition's, and what it asks for is there, by the laws of `Running`.
 use Prim.Native.Nat.{ℕ, _+_, _-_, _≤_}
 use mathlib.Core.List.{List, _++_}
 use mathlib.Core.Option.{none, some}
@@ -18,9 +18,9 @@ use Rattle.decide.specs.State.{stateOf}
 use Rattle.start.specs.declared.step.Next.the-variants.{Start, Done}
 use Rattle.start.specs.declared.step.Next.{Next}
 use Rattle.start.specs.Next.{nextOf}
-use Rattle.mr3.proofs.Running.{bounds, never-done, row-room, steps, summary-within, to-start}
-use Rattle.mr3.proofs.run.start.Statement.{statement}
-use Rattle.mr3.proofs.run.start.Tie as tie
+use Rattle.progress.proofs.Running.{bounds, never-done, row-room, steps, summary-within, to-start}
+use Rattle.progress.proofs.run.start.Statement.{statement}
+use Rattle.progress.proofs.run.start.Tie as tie
 
 -- the step's answer read as the definition's
 stops : (L : Load) (s : State) (n : Next) (list from gate : List ℕ) → nextOf n list from gate ≡ step L s → n ≡ Done → step L s ≡ none

@@ -1,14 +1,14 @@
--- `mr3::record::changed` meets its contract: the record is emptied, or its sums fit.
+-- `progress::change::changed` meets its contract: the record is emptied, or its sums fit.
 use Prim.Native.Nat.{_+_}
 use mathlib.Core.Bool.{true, false}
 use mathlib.Core.Path.{_≡_, refl}
 use native.Mathlib.Omega.{arith}
 use Rattle.rules.specs.declared.record.FlowRecord.{FlowRecord}
 use Rattle.rules.specs.Counts.{added, unlisted}
-use Rattle.mr3.specs.declared.record.Change.{Change}
-use Rattle.mr3.specs.Changes.{changed}
-use Rattle.mr3.proofs.record.changed.Statement.{statement}
-use Rattle.mr3.proofs.record.changed.Tie as tie
+use Rattle.progress.specs.declared.change.Change.{Change}
+use Rattle.progress.specs.Changes.{changed}
+use Rattle.progress.proofs.change.changed.Statement.{statement}
+use Rattle.progress.proofs.change.changed.Tie as tie
 
 emptied : (r : FlowRecord) (c : Change) → c .empty ≡ true → record { blocks = 0; turns = 0; time = 0 } ≡ changed r c
 unfolding changed unlisted

@@ -11,7 +11,7 @@ use Rattle.rules.specs.declared.record.FlowRecord.{FlowRecord}
 use Rattle.rules.specs.declared.row.Row.{Row}
 use Rattle.rules.specs.Counts.{added, one, unlisted}
 use Rattle.rules.specs.Load.{blockAt}
-use Rattle.mr3.specs.declared.record.Change.{Change}
+use Rattle.progress.specs.declared.change.Change.{Change}
 
 unfoldable pub empties : ℕ → Change
 empties f = record { flow = f; empty = true; turns = 0; time = 0 }

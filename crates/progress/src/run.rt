@@ -4,9 +4,9 @@ ghost use mathlib.Core.List.{[]};
 ghost use lib.ListN.{length};
 ghost use Rattle.rules.specs.Load.{loadOf};
 ghost use Rattle.waiting.specs.Entries.{entries};
-ghost use Rattle.mr3.specs.Going.{answered, Begins, Moves, Ready, reached, taken as Going·taken};
-use crate::record;
-use crate::record::Change;
+ghost use Rattle.progress.specs.Going.{answered, Begins, Moves, Ready, reached, taken as Going·taken};
+use crate::change;
+use crate::change::Change;
 use decide::state::Planner;
 use load::counts::Counts;
 use load::refusal::Verdict;
@@ -82,7 +82,7 @@ pub fn first(
     };
     Going {
         go: 0 < load.flows + left,
-        change: record::empties(0),
+        change: change::empties(0),
         verdict,
         empties: load.flows,
         running,
@@ -118,7 +118,7 @@ fn start(
     let verdict = going.verdict;
     Going {
         go: 0 < left,
-        change: record::adds(blocks, summary.turns, row),
+        change: change::adds(blocks, summary.turns, row),
         verdict,
         empties: 0,
         running: Running {
@@ -153,7 +153,7 @@ pub fn next(
     let running = going.running;
     Going {
         go: 0 < flow + running.left,
-        change: record::empties(flow),
+        change: change::empties(flow),
         verdict,
         empties: flow,
         running,

@@ -1,8 +1,8 @@
--- `mr3::record::begins` meets its contract: one turn, or none.
+-- `progress::change::begins` meets its contract: one turn, or none.
 use Rattle.load.proofs.Cases.{by-tests}
 use Rattle.rules.specs.Counts.{one}
-use Rattle.mr3.proofs.record.begins.Statement.{statement}
-use Rattle.mr3.proofs.record.begins.Tie as tie
+use Rattle.progress.proofs.change.begins.Statement.{statement}
+use Rattle.progress.proofs.change.begins.Tie as tie
 
 returns : tie.Need-returns
 unfolding one

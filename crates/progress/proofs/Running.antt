@@ -15,9 +15,9 @@ use Rattle.rules.specs.Within.{latest, RowWithin, StateWithin}
 use Rattle.rules.proofs.Bounds.{step-within}
 use Rattle.rows.specs.Tally.{SummaryWithin}
 use Rattle.start.specs.Starting.{Steps}
-use Rattle.mr3.specs.declared.run.Going.{Going}
-use Rattle.mr3.specs.declared.run.Running as running
-use Rattle.mr3.specs.Going.{Ready, Runs}
+use Rattle.progress.specs.declared.run.Going.{Going}
+use Rattle.progress.specs.declared.run.Running as running
+use Rattle.progress.specs.Going.{Ready, Runs}
 
 pub one-most : (b : Bool) → one b ≤ 1
 unfolding one

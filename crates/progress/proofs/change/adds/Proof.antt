@@ -1,4 +1,4 @@
--- `mr3::record::adds` meets its contract: the turn that the row begins, and the dominant time of its block.
+-- `progress::change::adds` meets its contract: the turn that the row begins, and the dominant time of its block.
 use Prim.Native.Nat.{ℕ, _*_}
 use mathlib.Core.Bool.{false}
 use mathlib.Core.List.{List}
@@ -12,9 +12,9 @@ use Rattle.load.proofs.Parts.{part-rest}
 use Rattle.rules.specs.declared.row.Row.{Row}
 use Rattle.rules.specs.Counts.{one}
 use Rattle.rules.specs.Load.{blockAt}
-use Rattle.mr3.specs.Changes.{adds}
-use Rattle.mr3.proofs.record.adds.Statement.{statement}
-use Rattle.mr3.proofs.record.adds.Tie as tie
+use Rattle.progress.specs.Changes.{adds}
+use Rattle.progress.proofs.change.adds.Statement.{statement}
+use Rattle.progress.proofs.change.adds.Tie as tie
 
 mul-at : tie.Need-mul-at
 mul-at c = search needs

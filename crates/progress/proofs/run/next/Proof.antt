@@ -1,4 +1,4 @@
--- `mr3::run::next` meets its contract: the last record that is to be emptied is, or a start is made.
+-- `progress::run::next` meets its contract: the last record that is to be emptied is, or a start is made.
 use Prim.Native.Nat.{ℕ, zero, suc, _-_, _<_}
 use mathlib.Core.List.{List}
 use mathlib.Core.Path.{refl}
@@ -7,10 +7,10 @@ use native.Mathlib.Omega.{arith}
 use borrow.Author.Needs.{needs}
 use Rattle.rules.specs.Load.{Load}
 use Rattle.rules.specs.Plan.{State}
-use Rattle.mr3.specs.declared.run.Going.{Going}
-use Rattle.mr3.specs.Going.{Does, Empties}
-use Rattle.mr3.proofs.run.next.Statement.{statement}
-use Rattle.mr3.proofs.run.next.Tie as tie
+use Rattle.progress.specs.declared.run.Going.{Going}
+use Rattle.progress.specs.Going.{Does, Empties}
+use Rattle.progress.proofs.run.next.Statement.{statement}
+use Rattle.progress.proofs.run.next.Tie as tie
 
 start-requires : tie.Need-start-requires
 start-requires c κs = search needs
