@@ -1,12 +1,10 @@
 -- What a decision asks still holds after the parts of it: the arrivals up to a tick, and the test of a turn, leave a list of flows of
 -- the load, none twice, and the round's number.
-use Prim.Native.Nat.{ℕ, _≤_}
+use Prim.Native.Nat.{ℕ}
 use mathlib.Core.List.{List, []}
-use mathlib.Core.Path.{_≡_, refl, ap}
-use native.Mathlib.Omega.{arith}
+use mathlib.Core.Path.{_≡_, refl}
 use lib.Dec.{leb, ltb}
 use Rattle.load.proofs.Cases.{by-test}
-use Rattle.rules.specs.declared.entry.Entry.{Entry}
 use Rattle.rules.specs.declared.mode.Mode.the-variants.{Idle, Holds, InTurn}
 use Rattle.rules.specs.declared.mode.Mode.{Mode}
 use Rattle.rules.specs.declared.round.Round.{Round}
@@ -14,17 +12,14 @@ use Rattle.rules.specs.Account.{noted}
 use Rattle.rules.specs.Load.{Load}
 use Rattle.rules.specs.Plan.{Core, State, rejoined, state, tested, upTo, waits, withLine, withRound, woken}
 use Rattle.rules.specs.Within.{Accepted, Away}
-use Rattle.rules.proofs.Lists.{lists-join, upTo-keep, upTo-lists}
-use Rattle.decide.specs.declared.state.Core as code
-use Rattle.decide.specs.declared.state.Planner.{Planner}
-use Rattle.decide.specs.Room.{Stands, Takes}
-use Rattle.decide.specs.State.{BecomesFrom, CoreBecomes, coreOf}
+use Rattle.rules.proofs.Lists.{lists-join}
 use Rattle.waiting.specs.Entries.{entries}
-
--- the list counts by its entries alone
-pub core-same : (c : code.Core) (list list′ from gate : List ℕ) → entries list′ ≡ entries list → coreOf c list′ from gate ≡ coreOf c list from gate
-core-same c list list′ from gate e =
-    ap (λ (w : List Entry). record { clock = c .clock; line = record { next = c .next; wait = w }; round = c .round; turns = c .turns; from = from; gate = gate; way = c .way }) e
+use Rattle.arrivals.specs.declared.state.Core as code
+use Rattle.arrivals.specs.declared.state.Planner.{Planner}
+use Rattle.arrivals.specs.Room.{Stands}
+use Rattle.arrivals.specs.State.{BecomesFrom, CoreBecomes, coreOf}
+use Rattle.arrivals.proofs.Standing.{upTo-stands}
+use Rattle.decide.specs.Room.{Takes}
 
 -- of the definition's core: what has arrived, and the round before
 record Keeps (L : Load) (r : Round) (c : Core) : Type 0 where
@@ -34,16 +29,7 @@ record Keeps (L : Load) (r : Round) (c : Core) : Type 0 where
 module _ (L : Load) (ok : Accepted L) (c : Core) (s : Stands L (c .line .next) (c .line .wait)) where
   upTo-keeps : (m : Mode) (t : ℕ) → Keeps L (c .round) (upTo L m t c)
   unfolding upTo
-  upTo-keeps m t = record {
-    stands = record {
-      arrived = upTo-keep L m t (λ l. l .next ≤ L .counts .blocks) (λ l h _. omega arith) c (s .arrived) (s .arrived);
-      lists = upTo-lists L ok m t c (s .arrived) (s .lists);
-    };
-    number = refl;
-  }
-
-  pub upTo-stands : (m : Mode) (t : ℕ) → Stands L (upTo L m t c .line .next) (upTo L m t c .line .wait)
-  upTo-stands m t = upTo-keeps m t .stands
+  upTo-keeps m t = record { stands = upTo-stands L ok c s m t; number = refl }
 
   kept : Keeps L (c .round) c
   kept = record { stands = s; number = refl }

@@ -19,7 +19,7 @@ use Rattle.rules.specs.Load.{Load, loadOf}
 use Rattle.rules.specs.Plan.{origin, run, Started, State, step}
 use Rattle.rules.specs.Rows.{rowWords}
 use Rattle.rules.specs.Within.{Accepted, StateWithin}
-use Rattle.decide.specs.State.{stateOf}
+use Rattle.arrivals.specs.State.{stateOf}
 use Rattle.progress.specs.declared.run.Going.{Going}
 use Rattle.progress.specs.declared.run.Running.{Running}
 use Rattle.progress.specs.Changes.{adds, empties}

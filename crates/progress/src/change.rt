@@ -2,7 +2,7 @@
 ghost use mathlib.Core.Path.{_≡_};
 ghost use lib.Dec.{ltb};
 ghost use Rattle.rules.specs.Counts.{one};
-ghost use Rattle.decide.specs.Room.{HasBlock};
+ghost use Rattle.arrivals.specs.Room.{HasBlock};
 ghost use Rattle.progress.specs.Changes.{adds as Changes·adds, changed as Changes·changed, empties as Changes·empties, Fits};
 use rules::record::FlowRecord;
 use rules::row::Row;

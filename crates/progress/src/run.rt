@@ -7,7 +7,7 @@ ghost use Rattle.waiting.specs.Entries.{entries};
 ghost use Rattle.progress.specs.Going.{answered, Begins, Moves, Ready, reached, taken as Going·taken};
 use crate::change;
 use crate::change::Change;
-use decide::state::Planner;
+use arrivals::state::Planner;
 use load::counts::Counts;
 use load::refusal::Verdict;
 use rows::row;

@@ -14,11 +14,12 @@ use Rattle.rules.specs.Load.{Load, loadOf}
 use Rattle.rules.specs.Plan.{Core, begun, settled, started, State, upTo}
 use Rattle.rules.specs.Within.{Accepted, Away, latest, ModeWithin, mostSpent, WayWithin}
 use Rattle.rules.proofs.Bounds.{settled-within}
-use Rattle.decide.specs.declared.state.Core as code
-use Rattle.decide.specs.declared.state.Planner.{Planner}
-use Rattle.decide.specs.Room.{Settles, Stands}
-use Rattle.decide.specs.State.{CoreBecomes, coreOf, stateOf}
-use Rattle.decide.proofs.Standing.{upTo-stands}
+use Rattle.arrivals.specs.declared.state.Core as code
+use Rattle.arrivals.specs.declared.state.Planner.{Planner}
+use Rattle.arrivals.specs.Room.{Stands}
+use Rattle.arrivals.specs.State.{CoreBecomes, coreOf, stateOf}
+use Rattle.arrivals.proofs.Standing.{upTo-stands}
+use Rattle.decide.specs.Room.{Settles}
 use Rattle.waiting.specs.Entries.{entries}
 use Rattle.start.specs.Starting.{HeldFits, most, Starts, Steps, TurnFits}
 

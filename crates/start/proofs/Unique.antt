@@ -6,7 +6,7 @@ use mathlib.Core.Path.{_≡_, refl, sym, ap, _∙_}
 use denote.Ref.{now}
 use Rattle.load.proofs.Once.{OneAnswer}
 use Rattle.rules.specs.Plan.{Started}
-use Rattle.decide.proofs.Unique.{ofState}
+use Rattle.arrivals.proofs.Unique.{ofState}
 use Rattle.start.specs.declared.step.Next.the-variants.{Start, Done}
 use Rattle.start.specs.declared.step.Next.{Next}
 use Rattle.start.specs.Next.{nextOf}

@@ -3,8 +3,8 @@ use Prim.Native.Nat.{ℕ}
 use mathlib.Core.List.{List}
 use mathlib.Core.Option.{Option, none, some}
 use Rattle.rules.specs.Plan as plan
-use Rattle.decide.specs.declared.state.Core.{Core}
-use Rattle.decide.specs.State.{stateOf}
+use Rattle.arrivals.specs.declared.state.Core.{Core}
+use Rattle.arrivals.specs.State.{stateOf}
 use Rattle.start.specs.declared.step.Next.{Next}
 use Rattle.start.specs.declared.step.Next.the-variants.{Start, Done}
 

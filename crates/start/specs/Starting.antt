@@ -8,8 +8,8 @@ use Rattle.rules.specs.declared.mode.Turn.{Turn}
 use Rattle.rules.specs.Load.{Load}
 use Rattle.rules.specs.Plan.{State}
 use Rattle.rules.specs.Within.{StateWithin, WayWithin}
-use Rattle.decide.specs.declared.state.Core.{Core}
-use Rattle.decide.specs.Room.{Stands}
+use Rattle.arrivals.specs.declared.state.Core.{Core}
+use Rattle.arrivals.specs.Room.{Stands}
 
 -- room for one block more after any tick that a plan reaches
 abbrev pub most : ℕ

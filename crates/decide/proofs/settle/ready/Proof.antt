@@ -8,8 +8,9 @@ use Rattle.rules.specs.Load.{loadOf}
 use Rattle.rules.specs.Plan.{Core, taken, woken}
 use Rattle.rules.proofs.Lists.{lists-few}
 use Rattle.waiting.proofs.Heads.{head-empty, head-flow}
+use Rattle.arrivals.proofs.Standing.{core-same}
 use Rattle.decide.proofs.Deciding.{readied-takes, readied-wakes}
-use Rattle.decide.proofs.Standing.{core-same, woken-takes}
+use Rattle.decide.proofs.Standing.{woken-takes}
 use Rattle.decide.proofs.settle.ready.Statement.{statement}
 use Rattle.decide.proofs.settle.ready.Tie as tie
 

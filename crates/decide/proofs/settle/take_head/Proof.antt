@@ -6,8 +6,8 @@ use lib.ListN.{length}
 use Rattle.rules.specs.declared.mode.Mode.the-variants.{Idle}
 use Rattle.rules.specs.Plan.{state, taken}
 use Rattle.waiting.proofs.Heads.{head-empty, head-flow}
+use Rattle.arrivals.proofs.Standing.{core-same}
 use Rattle.decide.proofs.Deciding.{taken-none}
-use Rattle.decide.proofs.Standing.{core-same}
 use Rattle.decide.proofs.settle.take_head.Statement.{statement}
 use Rattle.decide.proofs.settle.take_head.Tie as tie
 

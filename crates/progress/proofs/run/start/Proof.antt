@@ -13,8 +13,8 @@ use Rattle.rules.specs.declared.row.Row.{Row}
 use Rattle.rules.specs.Load.{Load}
 use Rattle.rules.specs.Plan.{State, step}
 use Rattle.rules.specs.Rows.{rowWords, wayWords}
-use Rattle.decide.specs.declared.state.Planner.{Planner}
-use Rattle.decide.specs.State.{stateOf}
+use Rattle.arrivals.specs.declared.state.Planner.{Planner}
+use Rattle.arrivals.specs.State.{stateOf}
 use Rattle.start.specs.declared.step.Next.the-variants.{Start, Done}
 use Rattle.start.specs.declared.step.Next.{Next}
 use Rattle.start.specs.Next.{nextOf}

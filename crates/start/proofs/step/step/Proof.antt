@@ -4,7 +4,7 @@ use borrow.Author.Needs.{needs}
 use Rattle.rules.specs.Load.{loadOf}
 use Rattle.rules.specs.Plan.{started, State, step}
 use Rattle.start.specs.Next.{nextOf}
-use Rattle.decide.specs.State.{stateOf}
+use Rattle.arrivals.specs.State.{stateOf}
 use Rattle.start.proofs.Reaching.{few-turns, held-fits, settled-steps, settles, started-at, started-idle, starting, turn-fits}
 use Rattle.start.proofs.step.step.Statement.{statement}
 use Rattle.start.proofs.step.step.Tie as tie

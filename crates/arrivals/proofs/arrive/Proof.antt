@@ -1,10 +1,10 @@
--- `decide::arrivals::arrive` meets its contract: the flow is busy, or listed, or joins, and then there is room for it.
+-- `arrivals::arrive` meets its contract: the flow is busy, or listed, or joins, and then there is room for it.
 use mathlib.Core.Path.{sym, _∙_}
 use borrow.Author.Needs.{needs}
 use Rattle.rules.specs.Plan.{arrived}
 use Rattle.rules.proofs.Lists.{lists-few, lists-room}
-use Rattle.decide.proofs.arrivals.arrive.Statement.{statement}
-use Rattle.decide.proofs.arrivals.arrive.Tie as tie
+use Rattle.arrivals.proofs.arrive.Statement.{statement}
+use Rattle.arrivals.proofs.arrive.Tie as tie
 
 busy-requires : tie.Need-busy-requires
 busy-requires c κs = search needs

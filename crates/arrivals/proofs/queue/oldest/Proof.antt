@@ -1,13 +1,13 @@
--- `decide::queue::oldest` meets its contract: at each turn the search that is left, from the block reached, ends as the whole search does.
+-- `arrivals::queue::oldest` meets its contract: at each turn the search that is left, from the block reached, ends as the whole search does.
 use Prim.Native.Nat.{_-_, _*_}
 use mathlib.Core.Path.{_≡_, sym, _∙_}
 use native.Mathlib.Omega.{arith}
 use borrow.Author.Needs.{needs}
 use Rattle.load.proofs.Cases.{by-tests}
 use Rattle.rules.specs.Load.{seek}
-use Rattle.decide.proofs.Seeking.{seek-step, seek-end}
-use Rattle.decide.proofs.queue.oldest.Statement.{statement}
-use Rattle.decide.proofs.queue.oldest.Tie as tie
+use Rattle.arrivals.proofs.Seeking.{seek-step, seek-end}
+use Rattle.arrivals.proofs.queue.oldest.Statement.{statement}
+use Rattle.arrivals.proofs.queue.oldest.Tie as tie
 
 abbrev Inv-loop : tie.InvT-loop
 Inv-loop blocks flow from next block₀ block = seek blocks flow (next - block) block ≡ seek blocks flow (next - from) from

@@ -6,8 +6,8 @@ use Rattle.rules.specs.declared.mode.Mode.{Mode}
 use Rattle.rules.specs.Load.{Load}
 use Rattle.rules.specs.Plan as plan
 use Rattle.waiting.specs.Entries.{entries}
-use Rattle.decide.specs.declared.state.Core.{Core}
-use Rattle.decide.specs.declared.state.Planner.{Planner}
+use Rattle.arrivals.specs.declared.state.Core.{Core}
+use Rattle.arrivals.specs.declared.state.Planner.{Planner}
 
 -- the code's numbers, with the list and the words of `from` and `gate` that are lent beside them
 abbrev pub lineOf : ℕ → List ℕ → plan.Line

@@ -1,4 +1,5 @@
-// Arrivals up to a tick: a flow joins the list when a block of its arrives and it is neither listed, held nor in its turn.
+// Arrivals up to a tick: a flow joins the list when a block of its arrives and it is neither listed, held nor in its turn. Beside
+// them the planner's state, and a flow's oldest block of those that have arrived.
 ghost use mathlib.Core.Path.{_≡_};
 ghost use Prim.Native.Nat.{_-_, _<_};
 ghost use Rattle.rules.specs.Load.{blockAt, loadOf};
@@ -6,8 +7,12 @@ ghost use Rattle.rules.specs.Plan.{arrivals, arrived, busy as Plan·busy, upTo}
 ghost use Rattle.rules.specs.Waiting.{Lists};
 ghost use Rattle.rules.specs.Within.{Accepted};
 ghost use Rattle.waiting.specs.Entries.{entries, most};
-ghost use Rattle.decide.specs.Room.{HasBlock, Stands};
-ghost use Rattle.decide.specs.State.{CoreBecomes, lineOf};
+ghost use Rattle.arrivals.specs.Room.{HasBlock, Stands};
+ghost use Rattle.arrivals.specs.State.{CoreBecomes, lineOf};
+
+pub mod queue;
+pub mod state;
+
 use crate::state::Core;
 use load::counts::Counts;
 use rules::entry::Entry;

@@ -1,8 +1,8 @@
--- `decide::arrivals::busy` meets its contract, mode by mode.
+-- `arrivals::busy` meets its contract, mode by mode.
 use borrow.Author.Needs.{needs}
 use Rattle.rules.specs.Plan.{busy}
-use Rattle.decide.proofs.arrivals.busy.Statement.{statement}
-use Rattle.decide.proofs.arrivals.busy.Tie as tie
+use Rattle.arrivals.proofs.busy.Statement.{statement}
+use Rattle.arrivals.proofs.busy.Tie as tie
 
 enum-told : tie.Need-enum-told
 enum-told c = search needs

@@ -1,4 +1,4 @@
--- `decide::arrivals::flow_of` meets its contract: the first of the block's six words.
+-- `arrivals::flow_of` meets its contract: the first of the block's six words.
 use Prim.Native.Nat.{_*_}
 use native.Mathlib.Nat.{add-zero}
 use native.Mathlib.Omega.{arith}
@@ -6,8 +6,8 @@ use borrow.Author.Needs.{needs}
 use lib.Seq.{getD-drop}
 use Rattle.load.specs.Blocks.{blockOf}
 use Rattle.rules.specs.Load.{blockAt}
-use Rattle.decide.proofs.arrivals.flow_of.Statement.{statement}
-use Rattle.decide.proofs.arrivals.flow_of.Tie as tie
+use Rattle.arrivals.proofs.flow_of.Statement.{statement}
+use Rattle.arrivals.proofs.flow_of.Tie as tie
 
 mul-at : tie.Need-mul-at
 mul-at c = search needs

@@ -1,12 +1,12 @@
--- `decide::arrivals::arrival` meets its contract: the second of the block's six words.
+-- `arrivals::arrival` meets its contract: the second of the block's six words.
 use Prim.Native.Nat.{_*_, _+_}
 use native.Mathlib.Omega.{arith}
 use borrow.Author.Needs.{needs}
 use lib.Seq.{getD-drop}
 use Rattle.load.specs.Blocks.{blockOf}
 use Rattle.rules.specs.Load.{blockAt}
-use Rattle.decide.proofs.arrivals.arrival.Statement.{statement}
-use Rattle.decide.proofs.arrivals.arrival.Tie as tie
+use Rattle.arrivals.proofs.arrival.Statement.{statement}
+use Rattle.arrivals.proofs.arrival.Tie as tie
 
 mul-at : tie.Need-mul-at
 mul-at c = search needs

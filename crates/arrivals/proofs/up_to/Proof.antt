@@ -1,9 +1,9 @@
--- `decide::arrivals::up_to` meets its contract: the line is `admit`'s, and all else but the clock stays.
+-- `arrivals::up_to` meets its contract: the line is `admit`'s, and all else but the clock stays.
 use mathlib.Core.Path.{ap}
 use borrow.Author.Needs.{needs}
 use Rattle.rules.specs.Plan.{Line, upTo}
-use Rattle.decide.proofs.arrivals.up_to.Statement.{statement}
-use Rattle.decide.proofs.arrivals.up_to.Tie as tie
+use Rattle.arrivals.proofs.up_to.Statement.{statement}
+use Rattle.arrivals.proofs.up_to.Tie as tie
 
 admit-requires : tie.Need-admit-requires
 admit-requires c κs = search needs

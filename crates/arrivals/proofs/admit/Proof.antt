@@ -1,4 +1,4 @@
--- `decide::arrivals::admit` meets its contract: at each turn what is left to be taken, from the line reached, gives the whole line.
+-- `arrivals::admit` meets its contract: at each turn what is left to be taken, from the line reached, gives the whole line.
 use Prim.Native.Nat.{_-_, _≤_}
 use mathlib.Core.Path.{_≡_, refl, sym, _∙_}
 use native.Mathlib.Omega.{arith}
@@ -8,10 +8,10 @@ use Rattle.rules.specs.Plan.{arrivals}
 use Rattle.rules.specs.Waiting.{Lists}
 use Rattle.rules.proofs.Lists.{arrived-lists, lists-more}
 use Rattle.waiting.specs.Entries.{entries, most}
-use Rattle.decide.specs.State.{lineOf}
-use Rattle.decide.proofs.Arriving.{arrivals-late, arrivals-none, arrivals-step}
-use Rattle.decide.proofs.arrivals.admit.Statement.{statement}
-use Rattle.decide.proofs.arrivals.admit.Tie as tie
+use Rattle.arrivals.specs.State.{lineOf}
+use Rattle.arrivals.proofs.Arriving.{arrivals-late, arrivals-none, arrivals-step}
+use Rattle.arrivals.proofs.admit.Statement.{statement}
+use Rattle.arrivals.proofs.admit.Tie as tie
 
 abbrev Inv-loop : tie.InvT-loop
 Inv-loop blocks mode tick first list₀ next₀ end list next =

@@ -1,0 +1,4 @@
+pub mod Arriving
+pub mod Seeking
+pub mod Standing
+pub mod Unique
