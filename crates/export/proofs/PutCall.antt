@@ -33,8 +33,8 @@ use Rattle.rules.specs.declared.answer.Planned.{Planned}
 use Rattle.rules.specs.Calls.{answerNumber, answerSummary}
 use Rattle.rules.proofs.answer.Planned as P
 use Rattle.rules.proofs.answer.Planned.Laws as P′
-use Rattle.export.specs.Calls.{summaryWords}
-use Rattle.export.proofs.words.put_plan as put
+use Rattle.words.specs.Words.{summaryWords}
+use Rattle.words.proofs.put_plan as put
 
 module _ {M : Type 1} {𝓤 : URA M} {H : Heap 𝓤} {A : Atoms 𝓤} {K : Type 0} {W : Given 𝓤 H A} {Γ : List (Item 𝓤)} {G : Goal 𝓤 H} where
   pub relends-ref : K → Soaks G → (R : RattleType) (ℓ ℓ′ : Lifetime) {κ : Lft} {q : Share} {γ : GName} (b o : ℕ) (y : R .Denot)

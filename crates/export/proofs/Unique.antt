@@ -12,7 +12,8 @@ use Rattle.rules.specs.declared.answer.Planned.{Planned}
 use Rattle.rules.specs.declared.record.FlowRecord.{FlowRecord}
 use Rattle.rules.specs.Calls.{answerSummary}
 use Rattle.rules.specs.Calls as planner
-use Rattle.export.specs.Calls.{PlansInWords, ReadsInWords, countWords, summaryWords}
+use Rattle.words.specs.Words.{countWords, summaryWords}
+use Rattle.export.specs.Calls.{PlansInWords, ReadsInWords}
 use Rattle.export.proofs.PlanReads as plan
 use Rattle.export.proofs.xarbulest_name.Reads as name
 use Rattle.export.proofs.xarbulest_read.Reads as read

@@ -2,7 +2,7 @@
 use Prim.Native.Nat.{ℕ}
 use mathlib.Core.Path.{_≡_}
 use mathlib.Core.Bool.{cond}
-use mathlib.Core.List.{List, [], _∷_, _++_}
+use mathlib.Core.List.{List, _++_}
 use lib.Dec.{ltb}
 use lib.ListN.{length, drop}
 use Rattle.load.specs.declared.counts.Counts.{Counts}
@@ -10,17 +10,10 @@ use Rattle.loadfile.specs.declared.Answer.{Answer}
 use Rattle.loadfile.specs.Calls.{Reads, answerCounts, shownName}
 use Rattle.loadfile.specs.Calls as reader
 use Rattle.rules.specs.declared.answer.Planned.{Planned}
-use Rattle.rules.specs.declared.answer.Summary.{Summary}
 use Rattle.rules.specs.declared.record.FlowRecord.{FlowRecord}
 use Rattle.rules.specs.Calls.{Plans, answerSummary}
 use Rattle.rules.specs.Calls as planner
-
--- The words of lent counts, in document 01's order.
-abbrev pub countWords : Counts → List ℕ
-countWords c = c .stages ∷ c .flows ∷ c .blocks ∷ []
-
-abbrev pub summaryWords : Summary → List ℕ
-summaryWords s = s .blocks ∷ s .turns ∷ s .rounds ∷ s .held ∷ s .ticks ∷ s .end ∷ []
+use Rattle.words.specs.Words.{countWords, summaryWords}
 
 -- The reader's answer, as a number and three words, and the table as the reader leaves it.
 pub record ReadsInWords (file table : List ℕ) (number : ℕ) (tableThen countsThen : List ℕ) : Type 0 where

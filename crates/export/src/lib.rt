@@ -1,8 +1,6 @@
 // The calls for programs in C and Rust, as a static library: `examples/xarbulest.h` declares them. Nothing is decided here. What
 // the crates answer as an enum, a struct or a part of a slice cannot cross the boundary, so it is written as a number and
 // words that the caller lends. Counts are lent as arrays of just their length, which leaves no length to be tested.
-mod words;
-
 ghost use mathlib.Core.Path.{_≡_};
 ghost use Rattle.load.specs.Refusals.{verdictNumber};
 ghost use Rattle.loadfile.specs.Calls.{soundness};

@@ -9,9 +9,10 @@ use Rattle.records.specs.Standing.{entry, entryFrom}
 use Rattle.records.specs.Records.{blockIn, blockMeasured, blockRecord, blockRecords, flowMeasured, flowRecord, flowRecords, fourBytes, measure, nameBytes, nameIn, onto, past, stopIf, timeIn, twoBytes, unless}
 use Rattle.records.specs.Records.{after as then}
 use Rattle.records.specs.Parts.{bytesIn}
+use Rattle.header.specs.Header.{countsIn, headerVerdict}
 use Rattle.body.specs.Body.{tableWords}
 use Rattle.loadfile.specs.Calls.{contents, ownOr, shownBytes, shownName, shownOf, shownPart}
-use Rattle.loadfile.specs.Layout.{countsIn, fileWith, headerVerdict, records, whole}
+use Rattle.loadfile.specs.Layout.{fileWith, records, whole}
 use Rattle.rules.specs.Account.{called, noted, opened, used}
 use Rattle.rules.specs.Counts.{counted, none, one, summary}
 use Rattle.rules.specs.Examples.{joined, same}

@@ -14,12 +14,14 @@ use Rattle.load.specs.declared.refusal.Verdict.the-variants as verdict
 use Rattle.load.specs.Refusals.{given}
 use Rattle.limits.proofs.Accepted.{CountsWithin, counts-within}
 use Rattle.records.specs.Records.{parsed, Parsed, refused}
+use Rattle.header.specs.Header.{countsIn, headerVerdict}
+use Rattle.header.proofs.Accepted.{header-good}
 use Rattle.body.specs.Body.{tableWords}
 use Rattle.loadfile.specs.declared.Answer.{Answer}
 use Rattle.loadfile.specs.declared.Answer.the-variants.{Read, Refused}
 use Rattle.loadfile.specs.Calls.{answerOf, contents, reading, Reads, tableAfter}
-use Rattle.loadfile.specs.Layout.{Contents, countsIn, headerVerdict}
-use Rattle.loadfile.proofs.Files.{contents-records, contents-refused, header-good, reading-records, reading-refused}
+use Rattle.loadfile.specs.Layout.{Contents}
+use Rattle.loadfile.proofs.Files.{contents-records, contents-refused, reading-records, reading-refused}
 use Rattle.loadfile.proofs.Passed.{contents-passed}
 use Rattle.rules.specs.Calls.{planVerdict, short}
 use Rattle.lines.specs.Lines.{refusedLine}

@@ -1,32 +1,20 @@
--- What a header says of the file: refused by its own tests, or of good counts, and then the file is its records.
+-- What the header's verdict says of the file: refused by its tests, and otherwise the file is its records.
 use Prim.Native.Nat.{ℕ, _*_, _<_, _≤_}
 use mathlib.Core.List.{List, _++_}
 use mathlib.Core.Path.{_≡_}
-use borrow.Author.Tests.{ltb-false, lt-ltb, le-ltb}
+use borrow.Author.Tests.{lt-ltb, le-ltb}
 use lib.ListN.{length, drop}
 use Rattle.load.specs.declared.counts.Counts.{Counts}
 use Rattle.load.specs.declared.refusal.Refusal.the-variants.{ShortTable}
 use Rattle.load.specs.declared.refusal.Refusal.{Refusal}
 use Rattle.load.specs.declared.refusal.Verdict.the-variants.{Accepted, Refused}
 use Rattle.load.specs.Refusals.{given}
-use Rattle.load.proofs.Cases.{given-accepted, or-false}
-use Rattle.limits.proofs.Accepted.{CountsWithin, counts-within}
 use Rattle.records.specs.Records.{refused, parsed, unless}
+use Rattle.header.specs.Header.{countsIn, headerVerdict}
 use Rattle.body.specs.Body.{tableWords}
 use Rattle.loadfile.specs.declared.Answer.the-variants as answer
 use Rattle.loadfile.specs.Calls.{answerOf, contents, reading, Reads, tableAfter}
-use Rattle.loadfile.specs.Layout.{countsIn, fileWith, headerVerdict, records, Contents}
-
-pub record Header (s : List ℕ) : Type 0 where
-  pub long : 10 ≤ length s
-  pub within : CountsWithin (countsIn s)
-
-pub header-good : (s : List ℕ) → headerVerdict s ≡ Accepted → Header s
-unfolding headerVerdict
-header-good s e =
-    let version = given-accepted _ _ _ e in
-    let size = given-accepted _ _ _ (version .1) in
-    record { long = ltb-false (length s) 10 (or-false _ _ (size .0) .0); within = counts-within (countsIn s) (size .1) }
+use Rattle.loadfile.specs.Layout.{fileWith, records, Contents}
 
 -- The file by its header and then its counts, as the code reads them.
 module _ (file : List ℕ) where

@@ -20,10 +20,11 @@ use Rattle.records.specs.Standing.{entry}
 use Rattle.records.specs.Records.{Parsed, refused, parsed, after, onto, blockMeasured, blockRecord, blockRecords, flowRecords, measure, nameIn}
 use Rattle.records.specs.Parts.{Part, bytesIn, empty}
 use Rattle.records.proofs.Records.{flow-record-reads, measure-within, unless-passed}
+use Rattle.header.specs.Header.{countsIn, headerVerdict}
 use Rattle.body.specs.Body.{tableWords}
 use Rattle.body.proofs.Names.{flows-read}
 use Rattle.loadfile.specs.Calls.{ofFile, ofStanding, contents, ownOr, shownBytes, shownName, shownOf, shownPart}
-use Rattle.loadfile.specs.Layout.{Contents, countsIn, fileWith, headerVerdict, records, whole}
+use Rattle.loadfile.specs.Layout.{Contents, fileWith, records, whole}
 use Rattle.loadfile.proofs.Body.{held}
 
 -- what was read in two steps was read in each, and what a test let pass was accepted

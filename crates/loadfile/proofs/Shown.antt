@@ -17,10 +17,11 @@ use Rattle.records.specs.Answers.{verdictOf}
 use Rattle.records.specs.Standing.{entry}
 use Rattle.records.specs.Records.{Parsed, refused, parsed, flowRecords}
 use Rattle.records.specs.Parts.{empty, IsPart, Part}
+use Rattle.header.specs.Header.{countsIn, headerVerdict}
 use Rattle.body.specs.Body.{bodyWalk, ownName}
 use Rattle.body.proofs.Names.{own-name}
 use Rattle.loadfile.specs.Calls.{contents, ofFile, ofStanding, ownOr, shownBytes, shownName, shownOf, shownPart, shownPlace, Shows, soundness}
-use Rattle.loadfile.specs.Layout.{Contents, countsIn, headerVerdict, records}
+use Rattle.loadfile.specs.Layout.{Contents, records}
 use Rattle.loadfile.proofs.Body.{body-reads, body-refuses, held}
 use Rattle.loadfile.proofs.Files.{contents-records, contents-refused}
 

@@ -1,7 +1,5 @@
 // Load files of version 1: the soundness call, the reader and the name call. `specs/Layout.antt` says what the bytes mean
 // and in which order a file is refused; the three contracts go by that one definition.
-mod header;
-
 ghost use mathlib.Core.Path.{_≡_};
 ghost use Rattle.loadfile.specs.Calls.{Reads, Shows, soundness};
 use body::table;

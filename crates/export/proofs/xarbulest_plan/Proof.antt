@@ -55,9 +55,9 @@ use Rattle.mr3.proofs.plan.Symbol as plan-def
 use Rattle.mr3.proofs.plan.Symbol.{name as #plan}
 use Rattle.mr3.proofs.plan.Met as plan-thm
 use Rattle.export.proofs.PutCall.{Put, Six, Numbered, wordsOf, to-put, goes-put, gives-put, relends-ref, unlends-ref}
-use Rattle.export.proofs.words.put_plan.Symbol as put-def
-use Rattle.export.proofs.words.put_plan.Symbol.{name as #put}
-use Rattle.export.proofs.words.put_plan.Met as put-thm
+use Rattle.words.proofs.put_plan.Symbol as put-def
+use Rattle.words.proofs.put_plan.Symbol.{name as #put}
+use Rattle.words.proofs.put_plan.Met as put-thm
 use Rattle.export.proofs.xarbulest_plan.Key.{name as #export}
 use Rattle.export.proofs.xarbulest_plan as call
 use Rattle.export.proofs.xarbulest_plan.Statement as stated
@@ -261,4 +261,4 @@ xarbulest-plan-spec 𝓤 H 𝓜 𝓖 𝓡 =
     (tables 𝓤 H 𝓜 𝓡 code.env .C) (tables 𝓤 H 𝓜 𝓡 code.env .Λ) #export code.function (code.unfolded 𝓤 H 𝓜 𝓡)
     (call-meets 𝓤 H (𝓖 .A) (givenOf 𝓤 H 𝓜 𝓖) (𝓜 .mem) (𝓡 .run) (tablesOf 𝓤 H 𝓜 (tables 𝓤 H 𝓜 𝓡 code.env))
     (cited 𝓤 H (Plan 𝓤 H (𝓖 .A) (𝓜 .mem) (𝓡 .run)) 𝓜 𝓡 code.env #plan plan-def.routine code.calls-mr3·plan (plan-thm.met 𝓤 H 𝓜 𝓖 𝓡))
-    (cited 𝓤 H (Put 𝓤 H (𝓖 .A) (𝓜 .mem) (𝓡 .run)) 𝓜 𝓡 code.env #put put-def.routine code.calls-export·words·put-plan (put-thm.met 𝓤 H 𝓜 𝓖 𝓡)))
+    (cited 𝓤 H (Put 𝓤 H (𝓖 .A) (𝓜 .mem) (𝓡 .run)) 𝓜 𝓡 code.env #put put-def.routine code.calls-words·put-plan (put-thm.met 𝓤 H 𝓜 𝓖 𝓡)))

@@ -3,7 +3,7 @@ use mathlib.Core.Path.{refl, sym, _∙_}
 use native.Mathlib.Omega.{arith}
 use borrow.Author.Needs.{needs}
 use Rattle.records.proofs.Parts.{is-part, part-length}
-use Rattle.loadfile.proofs.Files.{header-good}
+use Rattle.header.proofs.Accepted.{header-good}
 use Rattle.loadfile.proofs.Shown.{shown-absent, shown-entry, shown-own, shown-unsound, shows-file, shows-standing, sound-header}
 use Rattle.loadfile.proofs.name.Statement.{statement}
 use Rattle.loadfile.proofs.name.Tie as tie

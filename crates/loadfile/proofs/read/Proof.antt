@@ -3,9 +3,10 @@ use mathlib.Core.Path.{ap, sym, _∙_}
 use native.Mathlib.Omega.{arith}
 use borrow.Author.Needs.{needs}
 use Rattle.records.specs.Answers.{listOf, walkOf}
+use Rattle.header.proofs.Accepted.{header-good}
 use Rattle.body.proofs.Walks.{flows-within}
 use Rattle.loadfile.proofs.Body.{body-reads, body-refuses}
-use Rattle.loadfile.proofs.Files.{header-good, reading-records, reading-refused, reading-short, reads-refused, reads-whole}
+use Rattle.loadfile.proofs.Files.{reading-records, reading-refused, reading-short, reads-refused, reads-whole}
 use Rattle.loadfile.proofs.read.Statement.{statement}
 use Rattle.loadfile.proofs.read.Tie as tie
 

@@ -2,9 +2,10 @@
 use mathlib.Core.Path.{ap, sym, _∙_}
 use borrow.Author.Needs.{needs}
 use Rattle.records.specs.Answers.{verdictOf}
+use Rattle.header.proofs.Accepted.{header-good}
 use Rattle.loadfile.specs.Calls.{soundness}
 use Rattle.loadfile.proofs.Body.{body-reads, body-refuses}
-use Rattle.loadfile.proofs.Files.{contents-records, contents-refused, header-good}
+use Rattle.loadfile.proofs.Files.{contents-records, contents-refused}
 use Rattle.loadfile.proofs.sound.Statement.{statement}
 use Rattle.loadfile.proofs.sound.Tie as tie
 

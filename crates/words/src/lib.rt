@@ -2,7 +2,7 @@
 ghost use mathlib.Core.Path.{_≡_};
 ghost use Rattle.loadfile.specs.Calls.{answerCounts, answerNumber as readNumber};
 ghost use Rattle.rules.specs.Calls.{answerNumber as planNumber, answerSummary};
-ghost use Rattle.export.specs.Calls.{countWords, summaryWords};
+ghost use Rattle.words.specs.Words.{countWords, summaryWords};
 use load::refusal::Verdict;
 use loadfile::Answer;
 use rules::answer::Planned;

@@ -1,9 +1,9 @@
--- `export::words::put_plan` meets its contract: in each arm the answer is known, and number and words are its own.
+-- `words::put_plan` meets its contract: in each arm the answer is known, and number and words are its own.
 use mathlib.Core.Path.{refl}
 use borrow.Author.Needs.{needs}
 use Rattle.rules.specs.Counts.{none}
-use Rattle.export.proofs.words.put_plan.Statement.{statement}
-use Rattle.export.proofs.words.put_plan.Tie as tie
+use Rattle.words.proofs.put_plan.Statement.{statement}
+use Rattle.words.proofs.put_plan.Tie as tie
 
 enum-known-answer : tie.Need-enum-known-answer
 enum-known-answer c = search needs

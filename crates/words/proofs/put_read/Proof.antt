@@ -1,8 +1,8 @@
--- `export::words::put_read` meets its contract: in each arm the answer is known, and number and words are its own.
+-- `words::put_read` meets its contract: in each arm the answer is known, and number and words are its own.
 use mathlib.Core.Path.{refl}
 use borrow.Author.Needs.{needs}
-use Rattle.export.proofs.words.put_read.Statement.{statement}
-use Rattle.export.proofs.words.put_read.Tie as tie
+use Rattle.words.proofs.put_read.Statement.{statement}
+use Rattle.words.proofs.put_read.Tie as tie
 
 enum-known-answer : tie.Need-enum-known-answer
 enum-known-answer c = search needs

@@ -1,8 +1,8 @@
-// The ten bytes before the records.
+// The header of a load file: the ten bytes before the records.
 ghost use mathlib.Core.Path.{_≡_};
 ghost use Prim.Native.Nat.{_≤_};
 ghost use lib.ListN.{length};
-ghost use Rattle.loadfile.specs.Layout.{countsIn, headerVerdict};
+ghost use Rattle.header.specs.Header.{countsIn, headerVerdict};
 use load::counts::Counts;
 use load::refusal::Refusal;
 use load::refusal::Verdict;

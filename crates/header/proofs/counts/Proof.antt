@@ -1,9 +1,9 @@
--- `loadfile::header::counts` meets its contract: the three numbers are read where the layout has them.
+-- `header::counts` meets its contract: the three numbers are read where the header has them.
 use native.Mathlib.Omega.{arith}
 use borrow.Author.Needs.{needs}
-use Rattle.loadfile.specs.Layout.{countsIn}
-use Rattle.loadfile.proofs.header.counts.Statement.{statement}
-use Rattle.loadfile.proofs.header.counts.Tie as tie
+use Rattle.header.specs.Header.{countsIn}
+use Rattle.header.proofs.counts.Statement.{statement}
+use Rattle.header.proofs.counts.Tie as tie
 
 shared-slice-read-t3 : tie.Need-shared-slice-read-t3
 shared-slice-read-t3 c = search needs

@@ -1,10 +1,10 @@
--- `loadfile::header::test` meets its contract: at each return the tests that led there say which case of `headerVerdict` holds.
+-- `header::test` meets its contract: at each return the tests that led there say which case of `headerVerdict` holds.
 use borrow.Author.Needs.{needs}
 use Rattle.load.specs.Refusals.{given}
 use Rattle.load.proofs.Cases.{by-tests}
-use Rattle.loadfile.specs.Layout.{headerVerdict}
-use Rattle.loadfile.proofs.header.test.Statement.{statement}
-use Rattle.loadfile.proofs.header.test.Tie as tie
+use Rattle.header.specs.Header.{headerVerdict}
+use Rattle.header.proofs.test.Statement.{statement}
+use Rattle.header.proofs.test.Tie as tie
 
 returns : tie.Need-returns
 unfolding headerVerdict given
