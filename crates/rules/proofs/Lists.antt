@@ -11,10 +11,8 @@ use lib.ListN.{length}
 use Rattle.load.proofs.Cases as chain
 use Rattle.load.proofs.Cases.{by-test}
 use Rattle.rules.specs.declared.entry.Entry.{Entry}
-use Rattle.rules.specs.declared.mode.HeldFlow.{HeldFlow}
 use Rattle.rules.specs.declared.mode.Mode.{Mode}
 use Rattle.rules.specs.declared.mode.Mode.the-variants.{Idle, Holds, InTurn}
-use Rattle.rules.specs.declared.mode.Turn.{Turn}
 use Rattle.rules.specs.Counts.{one}
 use Rattle.rules.specs.EachBlock.{sumBelow}
 use Rattle.rules.specs.Load.{Load, blockAt}
@@ -119,15 +117,6 @@ module _ (L : Load) (ok : Accepted L) (m : Mode) (t : ℕ) (c : Core) (next : c 
   pub upTo-away : Away (L .counts .flows) m (c .line .wait) → Away (L .counts .flows) m (upTo L m t c .line .wait)
   upTo-away = upTo-keep L m t (λ l. Away (L .counts .flows) m (l .wait)) (λ l h. arrived-away (L .counts .flows) m _ (l .wait)) c next
 
--- no more flows are listed than the load has, and fewer where one is held or in its turn
-module _ {L : Load} {k : ℕ} {c : Core} where
-  pub listed-few : CoreWithin L k c → length (c .line .wait) ≤ L .counts .flows
-  listed-few w = lists-few (w .lists)
-
-  pub held-few : (h : HeldFlow) → CoreWithin L k c → Away (L .counts .flows) (Holds h) (c .line .wait) → length (c .line .wait) < L .counts .flows
-  unfolding Away
-  held-few h w a = lists-room (h .flow) (w .lists) (a .0) (a .1)
-
-  pub turn-few : (t : Turn) → CoreWithin L k c → Away (L .counts .flows) (InTurn t) (c .line .wait) → length (c .line .wait) < L .counts .flows
-  unfolding Away
-  turn-few t w a = lists-room (t .flow) (w .lists) (a .0) (a .1)
+-- no more flows are listed than the load has
+pub listed-few : {L : Load} {k : ℕ} {c : Core} → CoreWithin L k c → length (c .line .wait) ≤ L .counts .flows
+listed-few w = lists-few (w .lists)
