@@ -3,7 +3,6 @@ use Prim.Native.Nat.{ℕ}
 use mathlib.Core.List.{List}
 use mathlib.Core.Option.{Option, none, some}
 use mathlib.Core.Path.{_≡_, refl, sym, ap, _∙_}
-use denote.Ref.{now}
 use Rattle.load.proofs.Once.{OneAnswer}
 use Rattle.rules.specs.Plan.{Started}
 use Rattle.arrivals.proofs.Unique.{ofState}
