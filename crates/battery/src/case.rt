@@ -1,5 +1,4 @@
 // A case after its head: its parts are read, its call is made, and its line is put on the page.
-use crate::planned;
 use cases::head::Call;
 use cases::head::Head;
 use cases::table;

@@ -1,6 +1,5 @@
 // Runs the cases on standard input against the calls of loadfile and mr3, and writes a line for each.
 mod case;
-mod planned;
 
 use cases::head;
 use cases::head::Next;

@@ -1,4 +1,4 @@
--- `battery::planned::call` meets its contract: a walk of its MIR, by hand. The array is copied to a local of its own, whose first n records are lent to `mr3::plan` and come back; the rows are lent again. The answer and the array are given back as one value.
+-- `planned::call` meets its contract: a walk of its MIR, by hand. The array is copied to a local of its own, whose first n records are lent to `mr3::plan` and come back; the rows are lent again. The answer and the array are given back as one value.
 -- All that the proof knows of `mr3::plan` is that it meets its contract.
 use mathlib.Core.Path.{_≡_, refl, sym, _∙_, subst}
 use Prim.Native.Nat.{ℕ, _<_, _≤_, _^_}
@@ -57,13 +57,13 @@ use Rattle.walks.proofs.Relend.{relends, unlends}
 use Rattle.mr3.proofs.plan.Symbol as plan-def
 use Rattle.mr3.proofs.plan.Symbol.{name as #plan}
 use Rattle.mr3.proofs.plan.Met as plan-thm
-use Rattle.battery.specs.declared.planned.Called.{Called}
-use Rattle.battery.proofs.planned.Called as K
-use Rattle.battery.proofs.planned.Called.Laws as K′
-use Rattle.battery.proofs.planned.call.Key.{name as #call}
-use Rattle.battery.proofs.planned.call as call
-use Rattle.battery.proofs.planned.call.Statement as stated
-use Rattle.battery.proofs.planned.call.Code as code
+use Rattle.planned.specs.declared.Called.{Called}
+use Rattle.planned.proofs.Called as K
+use Rattle.planned.proofs.Called.Laws as K′
+use Rattle.planned.proofs.call.Key.{name as #call}
+use Rattle.planned.proofs.call as call
+use Rattle.planned.proofs.call.Statement as stated
+use Rattle.planned.proofs.call.Code as code
 
 abbrev Flows : RattleType
 Flows = Array T.the-row 128

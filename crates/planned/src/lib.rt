@@ -1,4 +1,4 @@
-// The plan call's case: the tables that it lends, and the call.
+// The plan call in a case of the battery: the tables that are lent to it, and the call.
 ghost use Prim.Native.Nat.{_≤_};
 use cases::answer;
 use cases::parameters;
