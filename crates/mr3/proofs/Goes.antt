@@ -28,12 +28,13 @@ use Rattle.rules.specs.Rows.{rowsWords, rowWords, wayWords}
 use Rattle.rules.proofs.Accepting.{accepted}
 use Rattle.rules.proofs.Blocks.{dominant-within}
 use Rattle.rules.proofs.Bounds.{origin-within}
+use Rattle.rules.proofs.Sums.{one-most}
 use Rattle.rules.proofs.Whole.{plan-length}
 use Rattle.progress.specs.declared.run.Going.{Going}
 use Rattle.progress.specs.declared.run.Running.{Running}
 use Rattle.progress.specs.Changes.{adds, changed, empties, Fits, noted}
 use Rattle.progress.specs.Going.{answered, Begins, Does, Empties, Moves, reached, Ready, Starts, taken}
-use Rattle.progress.proofs.Running.{bounds, next-row, one-most, row-room, runs-on, to-start}
+use Rattle.progress.proofs.Running.{bounds, next-row, row-room, runs-on, to-start}
 
 -- ---- the records still to be emptied, the first j
 abbrev emptied : ℕ → List FlowRecord → List FlowRecord

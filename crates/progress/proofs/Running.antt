@@ -1,6 +1,5 @@
 -- A start where a plan call is ready for one: the definition makes it too, and its row and its counts have room.
 use Prim.Native.Nat.{ℕ, zero, suc, _+_, _-_, _≤_, _<_}
-use mathlib.Core.Bool.{Bool, true, false}
 use mathlib.Core.List.{[], _∷_}
 use mathlib.Core.Option.{none, some}
 use mathlib.Core.Path.{_≡_, refl, ap}
@@ -8,21 +7,17 @@ use native.Mathlib.Numerals.{sub-one}
 use native.Mathlib.Omega.{arith}
 use lib.Dec.{ltb}
 use lib.ListN.{length}
-use Rattle.rules.specs.Counts.{counted, one}
+use Rattle.rules.specs.Counts.{counted}
 use Rattle.rules.specs.Load.{Load}
 use Rattle.rules.specs.Plan.{rowsFrom, run, Started, State, step}
 use Rattle.rules.specs.Within.{latest, RowWithin, StateWithin}
 use Rattle.rules.proofs.Bounds.{step-within}
+use Rattle.rules.proofs.Sums.{one-most}
 use Rattle.rows.specs.Tally.{SummaryWithin}
 use Rattle.start.specs.Starting.{Steps}
 use Rattle.progress.specs.declared.run.Going.{Going}
 use Rattle.progress.specs.declared.run.Running as running
 use Rattle.progress.specs.Going.{Ready, Runs}
-
-pub one-most : (b : Bool) → one b ≤ 1
-unfolding one
-one-most true = omega arith
-one-most false = omega arith
 
 run-ends : (L : Load) (left : ℕ) (s : State) → step L s ≡ none → run L left s ≡ []
 unfolding run rowsFrom

@@ -1,7 +1,7 @@
 -- Laws of a list of flows of the load, none twice: what it keeps where flows join it and leave it, and that it is no longer than the
 -- load has flows. Each entry counts at a flow of the load, and no two at the same.
 use Prim.Native.Nat.{ℕ, zero, suc, _+_, _-_, _≤_, _<_}
-use mathlib.Core.Bool.{Bool, true, false, _||_, or-assoc, or-false}
+use mathlib.Core.Bool.{false, _||_, or-assoc, or-false}
 use mathlib.Core.List.{List, [], _∷_, _++_}
 use mathlib.Core.Path.{_≡_, refl, sym, _∙_}
 use native.Mathlib.Omega.{arith}
@@ -19,12 +19,7 @@ use Rattle.rules.specs.Load.{Load, blockAt}
 use Rattle.rules.specs.Plan.{Core, Line, arrivals, arrived, busy, upTo}
 use Rattle.rules.specs.Waiting.{Apart, Below, Lists, listed}
 use Rattle.rules.specs.Within.{Accepted, Away, CoreWithin}
-use Rattle.rules.proofs.Sums.{sum-more, sum-most}
-
-one-most : (b : Bool) → one b ≤ 1
-unfolding one
-one-most true = omega arith
-one-most false = omega arith
+use Rattle.rules.proofs.Sums.{one-most, sum-more, sum-most}
 
 each-counts : (n : ℕ) (w : List Entry) → Apart w → Below n w → length w ≤ sumBelow (λ f. one (listed f w)) n
 unfolding listed one

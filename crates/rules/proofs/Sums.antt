@@ -1,6 +1,7 @@
 -- Sums over the numbers below one, and over rows: a sum over rows of what depends on their blocks is one over the blocks, each as
 -- often as it is listed.
 use Prim.Native.Nat.{ℕ, zero, suc, _+_, _*_, _≤_, _<_}
+use mathlib.Core.Bool.{Bool, true, false}
 use mathlib.Core.List.{List, [], _∷_}
 use mathlib.Core.Path.{_≡_, refl, sym, _∙_}
 use native.Mathlib.Nat.{add-mul, one-mul, zero-add, zero-mul}
@@ -13,6 +14,11 @@ use Rattle.rules.specs.declared.row.Row.{Row}
 use Rattle.rules.specs.Counts.{one}
 use Rattle.rules.specs.EachBlock.{EachBlockOnce, EachRow, OfItsBlock, sumBelow, sumOf, timesListed}
 use Rattle.rules.specs.Load.{Load}
+
+pub one-most : (b : Bool) → one b ≤ 1
+unfolding one
+one-most true = omega arith
+one-most false = omega arith
 
 -- two sums that differ by d at one place
 pub sum-more : (p q : ℕ → ℕ) (b d : ℕ) → q b ≡ p b + d → ((i : ℕ) → (i ≡ b → ⊥) → q i ≡ p i)

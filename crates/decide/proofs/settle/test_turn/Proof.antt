@@ -31,6 +31,13 @@ returns-2 : tie.Need-returns-2
 unfolding oldest state
 returns-2 c = λ gate. sym (tested-goes-on _ _ _ _ (c .before .before .before .oldest .ensures) (c .before .before .if1 .left) (omega (arith, c .if2 .taken)))
 
+returns-3 : tie.Need-returns-3
+unfolding oldest state
+returns-3 c = λ gate.
+    let k = c .before .before .before .before .before .before in
+    ap (state Idle) (c .rejoin .ensures (k .before .before .before .args .from .now) gate)
+    ∙ sym (tested-rejoins _ _ _ _ (k .oldest .ensures) (c .before .before .before .before .before .if1 .left) (omega (arith, c .before .before .before .if2 .left)))
+
 sub-excess : tie.Need-sub-excess
 sub-excess c = search needs
 
@@ -39,13 +46,6 @@ unfolding Away
 rejoin-requires c κs =
     let k = c .before .before .before .before .before .before .before .before in
     omega (arith, lists-room _ (k .pre .1 .0 .lists) (k .pre .1 .1 .0) (k .pre .1 .1 .1), k .pre .0 .flows)
-
-returns-3 : tie.Need-returns-3
-unfolding oldest state
-returns-3 c = λ gate.
-    let k = c .before .before .before .before .before .before in
-    ap (state Idle) (c .rejoin .ensures (k .before .before .before .args .from .now) gate)
-    ∙ sym (tested-rejoins _ _ _ _ (k .oldest .ensures) (c .before .before .before .before .before .if1 .left) (omega (arith, c .before .before .before .if2 .left)))
 
 pub test-turn-spec : {M : Type 1} → statement M
 test-turn-spec =
