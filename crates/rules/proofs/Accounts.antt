@@ -1,7 +1,8 @@
--- One flow's account, in numbers alone: what the planner's decisions and starts do to it, and what they keep of the flow's service
--- between two ticks. M is the largest stage time, W a flow's weight times M.
+-- A flow's account, in numbers alone: what the planner's decisions and starts do to it, and what they keep of services between two
+-- ticks, up to the first of them of one flow (`Early`) and from there on of two (`Late`). M is the largest stage time, W a flow's
+-- weight times M.
 use Prim.Native.Nat.{ℕ, _+_, _*_, _≤_, _<_}
-use mathlib.Core.Path.{_≡_}
+use mathlib.Core.Path.{_≡_, refl}
 use native.Mathlib.Omega.{arith}
 
 -- What the flow is due of the open round's credit, and what it owes: its excess and, in its turn, what it has spent since.
@@ -18,6 +19,20 @@ unfoldable pub standing : Account → Standing
 standing (Out x) = x
 standing (In x) = x
 
+-- what the turn under way was given, and what a turn of the open round will be
+unfoldable pub given : Account → ℕ
+given (Out x) = 0
+given (In x) = x .due
+
+unfoldable pub coming : Account → ℕ
+coming (Out x) = x .due
+coming (In x) = 0
+
+pub due-parts : (x : Account) → standing x .due ≡ given x + coming x
+unfolding coming given standing
+due-parts (Out x) = omega arith
+due-parts (In x) = omega arith
+
 -- A decision. Only a round that opens gives, namely g to each flow listed then. A turn that ends turns what it has spent above
 -- its due into the excess. (Nothing is said of a flow that has no block waiting: it leaves, or isn't there.)
 unfoldable pub Settles : Type 0 → ℕ → Account → Account → Type 0
@@ -25,6 +40,15 @@ Settles Waits g (Out x) (Out y) = Waits → (y .due ≡ x .due + g) × (y .owed 
 Settles Waits g (In x) (Out y) = Waits → (y .due ≡ g) × (y .owed + x .due ≡ x .owed)
 Settles Waits g (In x) (In y) = (y .due ≡ x .due) × (y .owed ≡ x .owed) × (g ≡ 0)
 Settles Waits g (Out x) (In y) = ⊥
+
+-- of a flow that waits, a decision changes what it is due over what it owes by what is given, and the end of a turn takes both off
+settles-gives : {Waits : Type 0} (g : ℕ) → Waits → (x y : Account) → Settles Waits g x y
+    → (standing y .due + standing x .owed ≡ standing x .due + standing y .owed + g) × (given y + standing x .owed ≡ given x + standing y .owed)
+unfolding Settles given standing
+settles-gives g w (Out x) (Out y) s = (omega (arith, s w), omega (arith, s w))
+settles-gives g w (Out x) (In y) s = absurd s
+settles-gives g w (In x) (In y) s = (omega (arith, s), omega (arith, s))
+settles-gives g w (In x) (Out y) s = (omega (arith, s w), omega (arith, s w))
 
 -- The ticks of a start: at `start` on stage 1 and `last` on the last stage, where the run goes from the last finish so far to `end`.
 pub record Ticks (before start last end : ℕ) : Type 0 where
@@ -38,6 +62,12 @@ pub record Served (t₁ t₂ start end d u : ℕ) : Type 0 where
   pub none-before : end ≤ t₁ → u ≡ 0
   pub none-after : t₂ ≤ start → u ≡ 0
   pub whole : t₁ ≤ start → end ≤ t₂ → u ≡ d
+
+-- a turn begins
+unfoldable pub Begins : Account → Account → Type 0
+Begins (Out x) (In y) = Unit {0}
+Begins (Out x) (Out y) = ⊥
+Begins (In x) y = ⊥
 
 -- A start, with the flow's gate before and after: the first block of its turn, another of its turn, or another flow's.
 module _ (t₁ t₂ start last end d u gate gate′ : ℕ) where
@@ -55,161 +85,115 @@ module _ (t₁ t₂ start last end d u gate gate′ : ℕ) where
   starts-none h (In x) (In y) s = s .0 .none-after h
   starts-none h (In x) (Out y) s = absurd s
 
+  -- what it gives is spent, and all that is spent is given where it ends by t₂
+  starts-spends : t₁ ≤ start → (x y : Account) → Starts x y
+      → (standing y .due ≡ standing x .due) × (u + standing x .owed ≤ standing y .owed) × (end ≤ t₂ → standing y .owed ≡ u + standing x .owed)
+  unfolding Starts standing
+  starts-spends h (Out x) (Out y) s = (s .1, omega (arith, s), λ e. omega (arith, s))
+  starts-spends h (Out x) (In y) s = (s .1, omega (arith, s, s .0 .part), λ e. omega (arith, s, s .0 .whole h e))
+  starts-spends h (In x) (In y) s = (s .1, omega (arith, s, s .0 .part), λ e. omega (arith, s, s .0 .whole h e))
+  starts-spends h (In x) (Out y) s = absurd s
+
 module _ (M W : ℕ) where
   -- what holds of an account at any time
   abbrev pub Sound : Account → Type 0
-  Sound x = (standing x .due ≤ W) × (standing x .owed ≤ standing x .due + M)
+  Sound x = (standing x .due ≤ W) × (standing x .owed ≤ given x + M)
+
+  -- Outside its turn a flow may have left, and then it owes nothing of what its last turn spent too much: at most M.
+  unfoldable pub over : Account → ℕ
+  over (Out x) = M
+  over (In x) = x .owed
 
   -- Up to t₁: what is left to serve after t₁ is of two turns. `end` is the last finish so far, and a the service so far.
-  pub record Rest (t₁ a end gate plus minus : ℕ) : Type 0 where
+  pub record Early (t₁ a end gate : ℕ) (x : Account) : Type 0 where
     pub none : end ≤ t₁ → a ≡ 0
-    pub one : gate ≤ t₁ → a + minus ≤ plus + W
-    pub two : a + minus ≤ plus + 2 * W + M
+    pub one : gate ≤ t₁ → a + given x ≤ over x + W
+    pub two : a + given x ≤ over x + 2 * W + M
 
-  unfoldable pub Early : ℕ → ℕ → ℕ → ℕ → Account → Type 0
-  Early t₁ a end gate (Out x) = Rest t₁ a end gate M 0
-  Early t₁ a end gate (In x) = Rest t₁ a end gate (x .owed) (x .due)
+  pub early-settles : (Waits : Type 0) (g : ℕ) {t₁ a end gate : ℕ} (x y : Account) → Sound x → Settles Waits g x y → Early t₁ a end gate x → Early t₁ a end gate y
+  unfolding Settles given over standing
+  early-settles Waits g (Out x) (Out y) ok s r = record { none = r .none; one = r .one; two = r .two }
+  early-settles Waits g (Out x) (In y) ok s r = absurd s
+  early-settles Waits g (In x) (In y) ok s r = record { none = r .none; one = λ h. omega (arith, s, r .one h); two = omega (arith, s, r .two) }
+  early-settles Waits g (In x) (Out y) ok s r = record { none = r .none; one = λ h. omega (arith, ok, r .one h); two = omega (arith, ok, r .two) }
 
-  pub early-settles : (t₁ a end gate g : ℕ) (Waits : Type 0) (x y : Account) → Sound x → Settles Waits g x y → Early t₁ a end gate x → Early t₁ a end gate y
-  unfolding Early Settles standing
-  early-settles t₁ a end gate g Waits (Out x) (Out y) ok s r = r
-  early-settles t₁ a end gate g Waits (Out x) (In y) ok s r = absurd s
-  early-settles t₁ a end gate g Waits (In x) (In y) ok s r = record { none = r .none; one = λ h. omega (arith, r .one h); two = omega (arith, r .two) }
-  early-settles t₁ a end gate g Waits (In x) (Out y) ok s r = record { none = r .none; one = λ h. omega (arith, r .one h); two = omega (arith, r .two) }
-
-  module _ (t₁ t₂ before start last end d u gate gate′ : ℕ) (t : Ticks before start last end) where
-    pub early-starts : (a : ℕ) → start ≤ t₁ → (x y : Account) → Sound x → Starts t₁ t₂ start last end d u gate gate′ x y → Early t₁ a before gate x → Early t₁ (a + u) end gate′ y
-    unfolding Early Starts standing
-    early-starts a h (Out x) (Out y) ok s r =
-        record { none = λ e. omega (arith, r .none (omega arith)); one = λ e. omega (arith, r .one (omega arith)); two = omega (arith, r .two) }
-    early-starts a h (Out x) (In y) ok s r =
-        record { none = λ e. omega (arith, r .none (omega arith), s .0 .none-before e); one = λ e. omega (arith, r .none (omega arith)); two = omega (arith, r .one (omega arith)) }
-    early-starts a h (In x) (In y) ok s r =
-        record { none = λ e. omega (arith, r .none (omega arith), s .0 .none-before e); one = λ e. omega (arith, r .one (omega arith)); two = omega (arith, r .two) }
-    early-starts a h (In x) (Out y) ok s r = absurd s
-
-  pub early-ends : (t₁ a end gate : ℕ) (x : Account) → Sound x → Early t₁ a end gate x → a ≤ 2 * W + 2 * M
-  unfolding Early standing
-  early-ends t₁ a end gate (Out x) ok r = omega (arith, r .two)
-  early-ends t₁ a end gate (In x) ok r = omega (arith, r .two)
-
-  -- From t₁ on, the most: a flow that was given so much since has had no more than that, what it owes, and what was left.
-  abbrev pub Most : ℕ → ℕ → Account → Type 0
-  Most a given x = a + standing x .due ≤ standing x .owed + given + 3 * W + 2 * M
-
-  pub most-enters : (t₁ a end gate : ℕ) (x : Account) → Sound x → Early t₁ a end gate x → Most a 0 x
-  unfolding Early standing
-  most-enters t₁ a end gate (Out x) ok r = omega (arith, r .two)
-  most-enters t₁ a end gate (In x) ok r = omega (arith, r .two)
-
-  pub most-settles : (a given g : ℕ) (Waits : Type 0) → Waits → (x y : Account) → Settles Waits g x y → Most a given x → Most a (given + g) y
-  unfolding Settles standing
-  most-settles a given g Waits w (Out x) (Out y) s m = omega (arith, s w)
-  most-settles a given g Waits w (Out x) (In y) s m = absurd s
-  most-settles a given g Waits w (In x) (In y) s m = omega (arith, s)
-  most-settles a given g Waits w (In x) (Out y) s m = omega (arith, s w)
-
-  -- And the least: it has started q, of which n₁ before its last turn and n₂ before the turn before that. The n₂ are served, the
-  -- n₁ too where the last turn is at the last stage by t₂, and all where the last finish is by t₂.
-  pub record Share (t₂ b given end gate slack : ℕ) (x : Standing) : Type 0 where
-    pub q : ℕ
-    pub n₁ : ℕ
-    pub n₂ : ℕ
-    pub least : given + x .owed ≤ q + x .due + M
-    pub one : q ≤ x .owed + n₁ + slack
-    pub two : q ≤ x .owed + n₂ + W + slack
-    pub served₂ : n₂ ≤ b
-    pub served₁ : gate ≤ t₂ → n₁ ≤ b
-    pub served : end ≤ t₂ → q ≤ b
-
-  unfoldable pub Least : ℕ → ℕ → ℕ → ℕ → ℕ → Account → Type 0
-  Least t₂ b given end gate (Out x) = Share t₂ b given end gate W x
-  Least t₂ b given end gate (In x) = Share t₂ b given end gate 0 x
-
-  none-yet : (t₂ b end gate slack : ℕ) (x : Standing) → x .owed ≤ x .due + M → Share t₂ b 0 end gate slack x
-  none-yet t₂ b end gate slack x h =
-      record { q = 0; n₁ = 0; n₂ = 0; least = omega arith; one = omega arith; two = omega arith; served₂ = omega arith; served₁ = λ _. omega arith; served = λ _. omega arith }
-
-  pub least-enters : (t₂ b end gate : ℕ) (x : Account) → Sound x → Least t₂ b 0 end gate x
-  unfolding Least standing
-  least-enters t₂ b end gate (Out x) ok = none-yet t₂ b end gate W x (ok .1)
-  least-enters t₂ b end gate (In x) ok = none-yet t₂ b end gate 0 x (ok .1)
-
-  -- a decision: the slack grows by what is taken off the debt
-  shared : (t₂ b given given′ end gate slack slack′ : ℕ) (x y : Standing) → given′ + y .owed + x .due ≤ given + x .owed + y .due → x .owed + slack ≤ y .owed + slack′
-      → Share t₂ b given end gate slack x → Share t₂ b given′ end gate slack′ y
-  shared t₂ b given given′ end gate slack slack′ x y h k s = record {
-    q = s .q;
-    n₁ = s .n₁;
-    n₂ = s .n₂;
-    least = omega (arith, s .least);
-    one = omega (arith, s .one);
-    two = omega (arith, s .two);
-    served₂ = s .served₂;
-    served₁ = s .served₁;
-    served = s .served;
-  }
-
-  pub least-settles : (t₂ b given end gate g : ℕ) (Waits : Type 0) → Waits → (x y : Account) → Sound x → Settles Waits g x y → Least t₂ b given end gate x → Least t₂ b (given + g) end gate y
-  unfolding Least Settles standing
-  least-settles t₂ b given end gate g Waits w (Out x) (Out y) ok s l = shared t₂ b given (given + g) end gate W W x y (omega (arith, s w)) (omega (arith, s w)) l
-  least-settles t₂ b given end gate g Waits w (Out x) (In y) ok s l = absurd s
-  least-settles t₂ b given end gate g Waits w (In x) (In y) ok s l = shared t₂ b given (given + g) end gate 0 0 x y (omega (arith, s)) (omega (arith, s)) l
-  least-settles t₂ b given end gate g Waits w (In x) (Out y) ok s l = shared t₂ b given (given + g) end gate 0 W x y (omega (arith, s w, ok)) (omega (arith, s w, ok)) l
-
-  -- a start in the window
-  module _ (t₁ t₂ before start last end d u gate gate′ : ℕ) (t : Ticks before start last end) (from : t₁ ≤ start) (to : start < t₂) where
-    abbrev StartOf : Account → Account → Type 0
-    StartOf x y = Starts t₁ t₂ start last end d u gate gate′ x y
-
-    pub most-starts : (a given : ℕ) (x y : Account) → StartOf x y → Most a given x → Most (a + u) given y
-    unfolding Starts standing
-    most-starts a given (Out x) (Out y) s m = omega (arith, s)
-    most-starts a given (Out x) (In y) s m = omega (arith, s, s .0 .part)
-    most-starts a given (In x) (In y) s m = omega (arith, s, s .0 .part)
-    most-starts a given (In x) (Out y) s m = absurd s
-
-    pub least-starts : (b given : ℕ) (x y : Account) → StartOf x y → Least t₂ b given before gate x → Least t₂ (b + u) given end gate′ y
-    unfolding Least Starts
-    least-starts b given (Out x) (Out y) s l = record {
-      q = l .q;
-      n₁ = l .n₁;
-      n₂ = l .n₂;
-      least = omega (arith, s, l .least);
-      one = omega (arith, s, l .one);
-      two = omega (arith, s, l .two);
-      served₂ = omega (arith, l .served₂);
-      served₁ = λ h. omega (arith, l .served₁ (omega (arith, s)));
-      served = λ h. omega (arith, t, l .served (omega (arith, t)));
+  module _ (t₁ t₂ before start last end d u gate gate′ a : ℕ) (t : Ticks before start last end) (by : start ≤ t₁) where
+    pub early-starts : (x y : Account) → Sound x → Starts t₁ t₂ start last end d u gate gate′ x y → Early t₁ a before gate x → Early t₁ (a + u) end gate′ y
+    unfolding Starts given over standing
+    early-starts (Out x) (Out y) ok s r =
+        record { none = λ e. omega (arith, t, s, r .none (omega (arith, t))); one = λ e. omega (arith, s, r .one (omega (arith, s))); two = omega (arith, s, r .two) }
+    early-starts (Out x) (In y) ok s r = record {
+      none = λ e. omega (arith, r .none (omega (arith, t)), s .0 .none-before e);
+      one = λ e. omega (arith, ok, s, s .0 .part, r .none (omega (arith, t, s)));
+      two = omega (arith, ok, s, s .0 .part, r .one (omega (arith, s)));
     }
-    least-starts b given (Out x) (In y) s l = record {
-      q = l .q + d;
-      n₁ = l .q;
-      n₂ = l .n₁;
-      least = omega (arith, s, l .least);
-      one = omega (arith, s);
-      two = omega (arith, s, l .one);
-      served₂ = omega (arith, l .served₁ (omega (arith, s)));
-      served₁ = λ h. omega (arith, l .served (omega (arith, t, s)));
-      served = λ h. omega (arith, l .served (omega (arith, t)), s .0 .whole from h);
+    early-starts (In x) (In y) ok s r = record {
+      none = λ e. omega (arith, r .none (omega (arith, t)), s .0 .none-before e);
+      one = λ e. omega (arith, s, s .0 .part, r .one (omega (arith, s)));
+      two = omega (arith, s, s .0 .part, r .two);
     }
-    least-starts b given (In x) (In y) s l = record {
-      q = l .q + d;
-      n₁ = l .n₁;
-      n₂ = l .n₂;
-      least = omega (arith, s, l .least);
-      one = omega (arith, s, l .one);
-      two = omega (arith, s, l .two);
-      served₂ = omega (arith, l .served₂);
-      served₁ = λ h. omega (arith, l .served₁ (omega (arith, s)));
-      served = λ h. omega (arith, l .served (omega (arith, t)), s .0 .whole from h);
+    early-starts (In x) (Out y) ok s r = absurd s
+
+  pub early-ends : {t₁ a end gate : ℕ} (x : Account) → Sound x → Early t₁ a end gate x → a ≤ 2 * W + 2 * M
+  unfolding given over standing
+  early-ends (Out x) ok r = omega (arith, r .two)
+  early-ends (In x) ok r = omega (arith, ok, r .two)
+
+-- From t₁ on, of two flows that both wait: i, with account x and gate `gate`, has had a, and j, with account y, has had b.
+-- Where all is served by t₂, what the two have had differs as what they are due and owe does (`none`), by up to 5 M, and s more where
+-- j comes first in each round. Where i begins a turn, all that was started before its turn before that one is served, by the gate. So
+-- what j has had is compared with i where i's last turn began (`one`) or its turn before that (`two`): j is due at most M there, and
+-- nothing where it comes first, and i has had its turns since.
+module _ (M : ℕ) where
+  pub record Late (t₂ a b s end gate : ℕ) (x y : Account) : Type 0 where
+    pub none : end ≤ t₂ → a + standing x .due + standing y .owed ≤ b + standing x .owed + standing y .due + 5 * M + s
+    pub one : gate ≤ t₂ → a + given x ≤ b + standing x .owed + 6 * M
+    pub two : a + given x ≤ b + standing x .owed + 7 * M
+
+  -- i's two last turns are left to serve, and j owes at most M above what is coming to i
+  pub late-enters : {t₁ t₂ a b s end gate : ℕ} (x y : Account) → Early M M t₁ a end gate x → coming x + standing y .owed ≤ standing y .due + M + s → Late t₂ a b s end gate x y
+  unfolding coming given over standing
+  late-enters (Out x) y r near = record { none = λ _. omega (arith, r .two); one = λ _. omega (arith, r .two); two = omega (arith, r .two) }
+  late-enters (In x) y r near = record { none = λ _. omega (arith, r .two); one = λ _. omega (arith, r .two); two = omega (arith, r .two) }
+
+  pub late-settles : {Waits Waits′ : Type 0} {t₂ a b s end gate : ℕ} (g : ℕ) → Waits → Waits′ → (x y x′ y′ : Account) → Settles Waits g x x′ → Settles Waits′ g y y′
+      → Late t₂ a b s end gate x y → Late t₂ a b s end gate x′ y′
+  late-settles g w w′ x y x′ y′ sₓ sᵧ r =
+      let p = settles-gives g w x x′ sₓ in
+      let q = settles-gives g w′ y y′ sᵧ in
+      record { none = λ h. omega (arith, p .0, q .0, r .none h); one = λ h. omega (arith, p .1, r .one h); two = omega (arith, p .1, r .two) }
+
+  -- a start between the ticks; where i begins a turn, j is due at most M, and nothing where it comes first
+  module _ (t₁ t₂ before start last end d u e v gate gate′ gateⱼ gateⱼ′ : ℕ) (t : Ticks before start last end) (from : t₁ ≤ start) (to : start < t₂) where
+    abbrev StartsI : Account → Account → Type 0
+    StartsI = Starts t₁ t₂ start last end d u gate gate′
+
+    abbrev StartsJ : Account → Account → Type 0
+    StartsJ = Starts t₁ t₂ start last end e v gateⱼ gateⱼ′
+
+    starts-none-left : {a b s : ℕ} (x y x′ y′ : Account) → StartsI x x′ → StartsJ y y′ → Late t₂ a b s before gate x y
+        → end ≤ t₂ → a + u + standing x′ .due + standing y′ .owed ≤ b + v + standing x′ .owed + standing y′ .due + 5 * M + s
+    starts-none-left x y x′ y′ sₓ sᵧ r h =
+        let p = starts-spends t₁ t₂ start last end d u gate gate′ from x x′ sₓ in
+        let q = starts-spends t₁ t₂ start last end e v gateⱼ gateⱼ′ from y y′ sᵧ in
+        omega (arith, p .0, p .1, q .0, q .2 h, r .none (omega (arith, t)))
+
+    pub late-starts : {a b s : ℕ} (x y x′ y′ : Account) → Sound M M x → (Begins x x′ → standing y .due + s ≤ M) → StartsI x x′ → StartsJ y y′
+        → Late t₂ a b s before gate x y → Late t₂ (a + u) (b + v) s end gate′ x′ y′
+    unfolding Begins Starts given standing
+    late-starts (Out x) y (Out x′) y′ ok first sₓ sᵧ r =
+        record { none = starts-none-left (Out x) y (Out x′) y′ sₓ sᵧ r; one = λ h. omega (arith, sₓ, r .one (omega (arith, sₓ))); two = omega (arith, sₓ, r .two) }
+    late-starts (Out x) y (In x′) y′ ok first sₓ sᵧ r = record {
+      none = starts-none-left (Out x) y (In x′) y′ sₓ sᵧ r;
+      one = λ h. omega (arith, sₓ, sₓ .0 .part, first tt, r .none (omega (arith, t, sₓ)));
+      two = omega (arith, ok, sₓ, sₓ .0 .part, r .one (omega (arith, sₓ)));
     }
-    least-starts b given (In x) (Out y) s l = absurd s
+    late-starts (In x) y (In x′) y′ ok first sₓ sᵧ r = record {
+      none = starts-none-left (In x) y (In x′) y′ sₓ sᵧ r;
+      one = λ h. omega (arith, sₓ, sₓ .0 .part, r .one (omega (arith, sₓ)));
+      two = omega (arith, sₓ, sₓ .0 .part, r .two);
+    }
+    late-starts (In x) y (Out x′) y′ ok first sₓ sᵧ r = absurd sₓ
 
-  pub most-ends : (a given : ℕ) (x : Account) → Sound x → Most a given x → a ≤ given + 3 * W + 3 * M
-  most-ends a given x ok m = omega (arith, ok, m)
-
-  pub least-ends : (t₂ b given end gate : ℕ) (x : Account) → Sound x → Least t₂ b given end gate x → given ≤ b + 3 * W + M
-  unfolding Least standing
-  least-ends t₂ b given end gate (Out x) ok l = omega (arith, ok, l .least, l .two, l .served₂)
-  least-ends t₂ b given end gate (In x) ok l = omega (arith, ok, l .least, l .two, l .served₂)
+  pub late-ends : {t₂ a b s end gate : ℕ} (x y : Account) → Sound M M x → Late t₂ a b s end gate x y → a ≤ b + 8 * M
+  late-ends x y ok r = omega (arith, ok, r .two)

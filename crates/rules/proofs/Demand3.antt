@@ -17,7 +17,7 @@ use Rattle.rules.specs.declared.record.FlowRecord.{FlowRecord}
 use Rattle.rules.specs.declared.row.Row.{Row}
 use Rattle.rules.specs.Calls.{answerNumber, Plans, planVerdict}
 use Rattle.rules.specs.EachBlock.{EachBlockOnce}
-use Rattle.rules.specs.Fairness.{Fair, largestOf, largestTime}
+use Rattle.rules.specs.Fairness.{Fair, largestOf, largestTime, ServedAlike}
 use Rattle.rules.specs.Load.{blockAt, Load, loadOf}
 use Rattle.rules.specs.Plan.{plan}
 use Rattle.rules.specs.Rows.{rowAt, rowsIn, rowsWords, rowWords, wayWords}
@@ -44,12 +44,15 @@ module _ (c : Counts) (n : ℕ) (table : List ℕ) (flowRecords rowWords : ℕ) 
   unfolding largestTime
   sound = accepted-sound c n table flowRecords rowWords e (largestTime L) (largest-bound table (c .blocks))
 
-  -- of the whole plan, and of its first n rows as if they were all
+  -- Of the whole plan, and of its first n rows as if they were all: eight times, which is exact, and so the ten of demand 3.
+  pub plan-alike : ServedAlike 8 L (plan L n)
+  unfolding plan
+  plan-alike i j t₁ t₂ wᵢ wⱼ = omega (arith, origin-fair L (largestTime L) sound t₁ t₂ i j (min n (c .blocks)) (omega arith) wᵢ wⱼ)
+
   pub plan-fair : Fair L (plan L n)
   unfolding plan
   plan-fair = record {
-    alike = λ i j t₁ t₂ wᵢ wⱼ.
-        omega (arith, origin-fair L (largestTime L) sound t₁ t₂ i j (min n (c .blocks)) (omega arith) (λ t from to _. wᵢ t from to) (λ t from to _. wⱼ t from to));
+    alike = λ i j t₁ t₂ wᵢ wⱼ. omega (arith, plan-alike i j t₁ t₂ wᵢ wⱼ);
     turns = λ f t. omega (arith, origin-turns L (largestTime L) sound f t (min n (c .blocks)) (omega arith));
   }
 

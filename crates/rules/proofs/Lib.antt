@@ -11,6 +11,7 @@ pub mod Fair
 pub mod FairExamples
 pub mod Kept
 pub mod Lists
+pub mod Order
 pub mod Refusing
 pub mod Spans
 pub mod Standing

@@ -40,10 +40,14 @@ below-join : {n : ℕ} (e : Entry) (w : List Entry) → e .flow < n → Below n 
 below-join e [] h b = (h, tt)
 below-join e (x ∷ w) h b = (b .0, below-join e w h (b .1))
 
+pub listed-append : (g : ℕ) (v w : List Entry) → listed g (v ++ w) ≡ listed g v || listed g w
+unfolding listed
+listed-append g [] w = refl
+listed-append g (e ∷ v) w = rw (listed-append g v w) (sym (or-assoc (eqb (e .flow) g) (listed g v) (listed g w)))
+
 pub listed-join : (g : ℕ) (e : Entry) (w : List Entry) → listed g (w ++ (e ∷ [])) ≡ listed g w || eqb (e .flow) g
 unfolding listed
-listed-join g e [] = or-false (eqb (e .flow) g)
-listed-join g e (x ∷ w) = rw (listed-join g e w) (sym (or-assoc (eqb (x .flow) g) (listed g w) (eqb (e .flow) g)))
+listed-join g e w = rw (listed-append g w (e ∷ []), or-false) refl
 
 apart-join : (e : Entry) (w : List Entry) → listed (e .flow) w ≡ false → Apart w → Apart (w ++ (e ∷ []))
 unfolding listed

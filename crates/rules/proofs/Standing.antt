@@ -15,16 +15,12 @@ use Rattle.rules.specs.Load.{Load, blockAt}
 use Rattle.rules.specs.Plan.{Line, arrivals, arrived, busy}
 use Rattle.rules.specs.Waiting.{listed}
 use Rattle.rules.proofs.Balances.{Split}
-use Rattle.rules.proofs.Accounts.{Standing}
+use Rattle.rules.proofs.Accounts.{Out, Sound, Standing, given, standing}
 
 -- What a flow is allowed of a credit: its weight times the credit, and all weights are 1. Beside the laws below, only `Decisions`
--- and `Starts` know that a turn's allowance is this, and `Fair` that it makes ten times the largest stage time in the end.
+-- and `Starts` know that a turn's allowance is this, and `Order` and `Fair` that it is the same for all flows.
 unfoldable pub allowed : ℕ → ℕ → ℕ
 allowed f credit = credit
-
-pub allowed-adds : (f a b : ℕ) → allowed f (a + b) ≡ allowed f a + allowed f b
-unfolding allowed
-allowed-adds f a b = refl
 
 pub allowed-none : (f : ℕ) → allowed f 0 ≡ 0
 unfolding allowed
@@ -46,17 +42,14 @@ split-length zero credit most w s = omega arith
 split-length (suc left) credit most [] s = absurd s
 split-length (suc left) credit most (e ∷ w) s = omega (arith, split-length left credit most w (s .1))
 
--- the first within their allowance, the others within M
-abbrev pub Within : ℕ → ℕ → Standing → Type 0
-Within f M x = (x .due ≤ allowed f M) × (x .owed ≤ x .due + M)
-
-pub standing-sound : (f left credit most M : ℕ) (w : List Entry) → credit ≤ M → most ≤ M → Split left credit most w → Within f M (standingIn f left (allowed f credit) w)
-unfolding Split allowed standingIn
+-- the first within the credit, the others within the largest excess of the round
+pub standing-sound : (f left credit most M : ℕ) (w : List Entry) → credit ≤ M → most ≤ M → Split left credit most w → Sound M (allowed f M) (Out (standingIn f left (allowed f credit) w))
+unfolding Split allowed given standing standingIn
 standing-sound f left credit most M [] h k s = (omega arith, omega arith)
 standing-sound f zero credit most M (e ∷ w) h k s =
-    by-test (Within f M) (eqb (e .flow) f) (λ _. omega (arith, s .0)) (λ _. standing-sound f zero credit most M w h k (s .1))
+    by-test (λ (x : Standing). Sound M M (Out x)) (eqb (e .flow) f) (λ _. omega (arith, s .0)) (λ _. standing-sound f zero credit most M w h k (s .1))
 standing-sound f (suc left) credit most M (e ∷ w) h k s =
-    by-test (Within f M) (eqb (e .flow) f) (λ _. omega (arith, s .0)) (λ _. standing-sound f left credit most M w h k (s .1))
+    by-test (λ (x : Standing). Sound M M (Out x)) (eqb (e .flow) f) (λ _. omega (arith, s .0)) (λ _. standing-sound f left credit most M w h k (s .1))
 
 module _ (f allowance : ℕ) where
   -- a flow joins the tail: another, or this one with no excess

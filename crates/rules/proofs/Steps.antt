@@ -14,10 +14,10 @@ use Rattle.rules.specs.declared.row.Row.{Row}
 use Rattle.rules.specs.declared.mode.Mode.the-variants.{Idle, Holds, InTurn}
 use Rattle.rules.specs.declared.mode.Mode.{Mode}
 use Rattle.rules.specs.Load.{Load, blockAt}
-use Rattle.rules.specs.Plan.{Core, Started, State, onward, origin, readied, rejoined, rowsFrom, run, settled, state, step, taken, tested, turnOf, upTo, waits, withLine, withRound, woken}
+use Rattle.rules.specs.Plan.{Core, Started, State, onward, origin, readied, rejoined, rowsFrom, run, settled, started, state, step, taken, tested, turnOf, upTo, waits, withLine, withRound, woken}
 use Rattle.rules.specs.Within.{StateWithin}
 use Rattle.rules.proofs.Balances.{Balanced, HeldBalanced, Listed, Split, origin-balanced, settled-balanced, step-balanced}
-use Rattle.rules.proofs.Bounds.{origin-within, step-within}
+use Rattle.rules.proofs.Bounds.{origin-within, settled-within, step-within}
 use Rattle.rules.proofs.Unstarted.{Open, Whole}
 use Rattle.rules.proofs.Whole.{origin-whole, step-whole}
 use Rattle.rules.specs.Fairness.{servedBy}
@@ -87,7 +87,7 @@ module _ (L : Load) where
 module _ (L : Load) (M : ℕ) (ok : Sound L M) where
   -- an account is within its bounds
   account-sound : (f x : ℕ) (m : Mode) (c : Core) → x ≤ M → Kept L M x m c → Listed c → HeldBalanced m c → accounts.Sound M (allowed f M) (account f m c)
-  unfolding HeldBalanced ModeKept Split account standing turnOf
+  unfolding HeldBalanced ModeKept Split account accounts.given standing turnOf
   account-sound f x Idle c h v s b = standing-sound f (c .round .left) (c .round .credit) (c .round .most) M (c .line .wait) (v .credit) (v .most) s
   account-sound f x (Holds e) c h v s b = standing-sound f (suc (c .round .left)) (c .round .credit) (c .round .most) M (record { flow = e .flow; excess = e .excess } ∷ c .line .wait) (v .credit) (v .most) (b, s)
   account-sound f x (InTurn t) c h v s b =
@@ -109,18 +109,28 @@ module _ (L : Load) (M : ℕ) (ok : Sound L M) where
   origin-good = record { within = origin-within L (ok .accepted); whole = origin-whole L; balanced = origin-balanced L; kept = origin-kept L M }
 
   -- a flow's account by a step, with the one between the decision and the start
+  abbrev pub between : ℕ → State → Account
+  between f s = account f (settled L s .mode) (settled L s .core)
+
   pub record Moves (f t₁ t₂ : ℕ) (s : State) (q : Started) : Type 0 where
-    pub between : Account
-    pub sound : accounts.Sound M (allowed f M) between
-    pub settles : Settles (Open L (s .core .from) (s .core .line .next) f) (allowed f (gain L s)) (account f (s .mode) (s .core)) between
+    pub sound : accounts.Sound M (allowed f M) (between f s)
+    pub settles : Settles (Open L (s .core .from) (s .core .line .next) f) (allowed f (gain L s)) (account f (s .mode) (s .core)) (between f s)
     pub starts : Starts t₁ t₂ (q .row .way .one .start) (lastStart L M ok (q .row .way)) (endOf L M ok (q .row .way)) (dominantTime (blockAt (L .table) (q .row .block)))
-        (servedBy f t₁ t₂ (q .row)) (getD (s .core .gate) f 0) (getD (q .then .core .gate) f 0) between (account f (q .then .mode) (q .then .core))
+        (servedBy f t₁ t₂ (q .row)) (getD (s .core .gate) f 0) (getD (q .then .core .gate) f 0) (between f s) (account f (q .then .mode) (q .then .core))
+
+  -- the state between them
+  pub record Decided (k : ℕ) (s : State) (q : Started) : Type 0 where
+    pub within : StateWithin L k s
+    pub balanced : Balanced s
+    pub kept : KeptAt L M 0 s
+    pub starts : started L (s .mode) (s .core) ≡ some q
 
   pub record Stepped (k : ℕ) (s : State) (q : Started) : Type 0 where
     pub good : Good (k + 1) (q .then)
     pub later : s .core .clock ≤ q .row .way .one .start
     pub made : Made L M ok (s .core .from) (s .core .way) q
     pub turned : Turned L M ok (s .core .turns) (s .core .gate) q
+    pub decided : Decided k (settled L s) q
     pub moves : (f t₁ t₂ : ℕ) → Moves f t₁ t₂ s q
 
   pub stepped : (k : ℕ) (s : State) (q : Started) → k < L .counts .blocks → Good k s → step L s ≡ some q → Stepped k s q
@@ -141,8 +151,8 @@ module _ (L : Load) (M : ℕ) (ok : Sound L M) where
         later = omega (arith, same .clock, n .later);
         made = rw (same .from, same .way) at (n .made);
         turned = rw (same .turns, same .gate) at (n .turned);
+        decided = record { within = settled-within L (ok .accepted) k s (g .within); balanced = b; kept = v; starts = e };
         moves = λ f t₁ t₂. record {
-          between = account f (s′ .mode) (s′ .core);
           sound = account-sound f 0 (s′ .mode) (s′ .core) (omega arith) v (b .0) (b .1);
           settles = settled-settles L k f s (g .whole) (g .within .away) (g .balanced .0);
           starts = rw (same .gate) at (n .starts f t₁ t₂);
