@@ -2,7 +2,7 @@
 -- ticks, up to the first of them of one flow (`Early`) and from there on of two (`Late`). M is the largest stage time, W a flow's
 -- weight times M.
 use Prim.Native.Nat.{ℕ, _+_, _*_, _≤_, _<_}
-use mathlib.Core.Path.{_≡_, refl}
+use mathlib.Core.Path.{_≡_}
 use native.Mathlib.Omega.{arith}
 
 -- What the flow is due of the open round's credit, and what it owes: its excess and, in its turn, what it has spent since.

@@ -6,21 +6,20 @@ use mathlib.Core.Bool.{_||_}
 use mathlib.Core.List.{List, [], _∷_, _++_}
 use mathlib.Core.Option.{some}
 use mathlib.Core.Path.{_≡_, refl}
-use native.Mathlib.Numerals.{sub-one}
 use native.Mathlib.Omega.{arith}
-use borrow.Author.Tests.{eqb-false, eqb-true}
-use lib.Dec.{eqb, leb, ltb}
+use lib.Dec.{leb, ltb}
 use lib.ListN.{length}
 use Rattle.load.proofs.Cases.{by-test}
 use Rattle.rules.specs.declared.entry.Entry.{Entry}
 use Rattle.rules.specs.declared.mode.Mode.the-variants.{Idle, Holds, InTurn}
 use Rattle.rules.specs.declared.mode.Mode.{Mode}
 use Rattle.rules.specs.declared.round.Round.{Round}
-use Rattle.rules.specs.Account.{called, noted, opened, used}
+use Rattle.rules.specs.Account.{called, noted}
 use Rattle.rules.specs.Load.{blockAt, Load}
 use Rattle.rules.specs.Plan.{after, arrivals, arrived, begins, begun, busy, Core, first, further, heldUntil, Line, onward, origin, readied, rejoined, settled, started, Started, State, state, step, taken, tested, turnOf, upTo, waits, where-waits, withLine, withRound, woken}
 use Rattle.rules.specs.Waiting.{listed}
 use Rattle.rules.proofs.Bounds.{where-some}
+use Rattle.rules.proofs.Waiting.{call-cases}
 
 -- the first k entries are within the credit, the others within the round's largest excess
 unfoldable pub Split : ℕ → ℕ → ℕ → List Entry → Type 0
@@ -64,15 +63,11 @@ Balanced s = Listed (s .core) × HeldBalanced (s .mode) (s .core)
 call-split : (number left credit most : ℕ) (e : Entry) (w : List Entry) → Split left credit most (e ∷ w)
     → let r : Round = called (record { number = number; left = left; credit = credit; most = most }) (length (e ∷ w)) in
     (e .excess ≤ r .credit) × Split (r .left) (r .credit) (r .most) w
-unfolding Split called opened used
+unfolding Split
 call-split number left credit most e w s =
-    by-test (λ (r : Round). (e .excess ≤ used r .credit) × Split (used r .left) (used r .credit) (used r .most) w) (eqb left 0)
-    (λ h. rw sub-one (opens credit most (e ∷ w) (rw (eqb-true left 0 h) at s)))
-    (λ h. head left (eqb-false left 0 h) s)
-  where
-    head : (k : ℕ) → (k ≡ 0 → ⊥) → Split k credit most (e ∷ w) → (e .excess ≤ credit) × Split (k - 1) credit most w
-    head zero h v = absurd (h refl)
-    head (suc k) h v = rw sub-one v
+    call-cases (λ (r : Round). (e .excess ≤ r .credit) × Split (r .left) (r .credit) (r .most) w) number left credit most (length w)
+    (λ is. opens credit most (e ∷ w) (rw is at s))
+    (λ k is. rw is at s)
 
 module _ (L : Load) where
   arrivals-split : (n k credit most : ℕ) (m : Mode) (t : ℕ) (l : Line) → Split k credit most (l .wait) → Split k credit most (arrivals L n m t l .wait)

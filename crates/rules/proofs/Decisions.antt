@@ -3,7 +3,6 @@ use Prim.Native.Nat.{ℕ, zero, suc, _+_, _-_, _≤_}
 use mathlib.Core.Bool.{true, false, true≢false, cond}
 use mathlib.Core.List.{List, [], _∷_}
 use mathlib.Core.Path.{_≡_, refl, sym, _∙_}
-use native.Mathlib.Numerals.{sub-one}
 use native.Mathlib.Omega.{arith}
 use borrow.Author.Tests.{eqb-false, eqb-true, leb-false}
 use lib.Dec.{eqb, leb}
@@ -14,7 +13,7 @@ use Rattle.rules.specs.declared.entry.Entry.{Entry}
 use Rattle.rules.specs.declared.mode.Mode.the-variants.{Idle, Holds, InTurn}
 use Rattle.rules.specs.declared.mode.Mode.{Mode}
 use Rattle.rules.specs.declared.mode.Turn.{Turn}
-use Rattle.rules.specs.Account.{called, noted, opened, used}
+use Rattle.rules.specs.Account.{called, noted}
 use Rattle.rules.specs.Load.{Load}
 use Rattle.rules.specs.Plan.{Core, State, onward, readied, rejoined, settled, state, taken, tested, waits, withLine, withRound, woken}
 use Rattle.rules.specs.Waiting.{listed}
@@ -24,6 +23,7 @@ use Rattle.rules.proofs.Unstarted.{Open, Whole, open-waits}
 use Rattle.rules.proofs.Whole.{turn-leaves as leaves-whole, turn-rejoins as rejoins-whole}
 use Rattle.rules.proofs.Accounts.{Account, In, Out, Settles, Standing}
 use Rattle.rules.proofs.Standing.{allowed, allowed-none, joined-own, joined-same, round-opens, split-length, standingIn}
+use Rattle.rules.proofs.Waiting.{call-cases}
 
 abbrev pub listedAs : ℕ → Core → Standing
 listedAs f c = standingIn f (c .round .left) (allowed f (c .round .credit)) (c .line .wait)
@@ -50,23 +50,16 @@ call-standing : (f number left credit most : ℕ) (e : Entry) (w : List Entry) �
     let x = standingIn f left (allowed f credit) (e ∷ w) in
     let y = standingIn f (suc (r .left)) (allowed f (r .credit)) (e ∷ w) in
     (y .due ≡ x .due + allowed f (gainOf left most)) × (y .owed ≡ x .owed)
-unfolding called gainOf opened used
+unfolding gainOf
 call-standing f number left credit most e w there =
-    by-test
+    call-cases
     (λ (r : Round).
     let x = standingIn f left (allowed f credit) (e ∷ w) in
-    let y = standingIn f (suc (used r .left)) (allowed f (used r .credit)) (e ∷ w) in
+    let y = standingIn f (suc (r .left)) (allowed f (r .credit)) (e ∷ w) in
     (y .due ≡ x .due + allowed f (gainOf left most)) × (y .owed ≡ x .owed))
-    (eqb left 0)
-    (λ h. rw (sub-one, eqb-true left 0 h) (round-opens f (allowed f most) (allowed f credit) (e ∷ w) there))
-    (λ h. current left (eqb-false left 0 h))
-  where
-    current : (k : ℕ) → (k ≡ 0 → ⊥) →
-        let x = standingIn f k (allowed f credit) (e ∷ w) in
-        let y = standingIn f (suc (k - 1)) (allowed f credit) (e ∷ w) in
-        (y .due ≡ x .due + allowed f (gainOf k most)) × (y .owed ≡ x .owed)
-    current zero h = absurd (h refl)
-    current (suc k) h = rw sub-one (omega (arith, allowed-none f), refl)
+    number left credit most (length w)
+    (λ is. rw is (round-opens f (allowed f most) (allowed f credit) (e ∷ w) there))
+    (λ k is. rw is (omega (arith, allowed-none f), refl))
 
 -- no change of the account
 same : (Waits : Type 0) (x : Account) → Settles Waits 0 x x

@@ -9,16 +9,15 @@ use borrow.Author.Tests.{eqb-false, eqb-true, leb-false, leb-true, ltb-false, lt
 use lib.Dec.{eqb, leb, ltb}
 use lib.ListN.{getD}
 use Rattle.load.proofs.Cases.{cases}
-use Rattle.rules.specs.declared.mode.Mode.{Mode}
 use Rattle.rules.specs.declared.row.Row.{Row}
 use Rattle.rules.specs.Load.{Load}
-use Rattle.rules.specs.Plan.{Core, Started, State, origin, run, settled, state, upTo}
+use Rattle.rules.specs.Plan.{Started, State, origin, run, settled, state, upTo}
 use Rattle.rules.proofs.Unstarted.{Open}
 use Rattle.rules.specs.Fairness.{servedBy, service, waitsAt, WaitsFrom}
 use Rattle.rules.proofs.Accounts.{Account, Begins, Early, Late, due-parts, early-ends, early-settles, early-starts, given, late-ends, late-enters, late-settles, late-starts, over, standing, starts-none}
 use Rattle.rules.proofs.Accounts as accounts
 use Rattle.rules.proofs.Decisions.{account, gain}
-use Rattle.rules.proofs.Order.{After, after-begins, behind, else-near, settled-after, started-after}
+use Rattle.rules.proofs.Order.{Behind, behind-begins, behind, else-near, settled-behind, started-behind}
 use Rattle.rules.proofs.Standing.{allowed}
 use Rattle.rules.proofs.Starts.{Sound, endOf}
 use Rattle.rules.proofs.Steps.{Good, Moves, Stepped, between, good-sound, origin-good, run-next, stepped}
@@ -41,7 +40,7 @@ module _ (L : Load) (M : ℕ) (ok : Sound L M) (t₁ t₂ i j : ℕ) (differ : i
   record Both (a b end gate : ℕ) (s : State) : Type 0 where
     lead : ℕ
     small : lead ≤ M
-    order : 0 < lead → After i j (s .mode) (s .core)
+    order : 0 < lead → Behind i j s
     late : Late M t₂ a b lead end gate (accountAt i s) (accountAt j s)
 
   data Phase (a b : ℕ) (s : State) : Type 0 where
@@ -74,11 +73,11 @@ module _ (L : Load) (M : ℕ) (ok : Sound L M) (t₁ t₂ i j : ℕ) (differ : i
     between-sound f = move f .sound
 
     -- where i begins a turn, j is due nothing if it comes first
-    begins : (lead : ℕ) → lead ≤ M → (0 < lead → After i j (s′ .mode) (s′ .core)) → Begins (accountAt i s′) (accountAt i (q .then)) → standing (accountAt j s′) .due + lead ≤ M
+    begins : (lead : ℕ) → lead ≤ M → (0 < lead → Behind i j s′) → Begins (accountAt i s′) (accountAt i (q .then)) → standing (accountAt j s′) .due + lead ≤ M
     begins lead small order e =
         let d = p .decided in
         cases (ltb 0 lead)
-        (λ h. omega (arith, after-begins i j differ L _ (s′ .mode) (s′ .core) q (d .within .core .lists .apart) (d .within .away) (d .starts) (order (ltb-true 0 lead h)) e))
+        (λ h. omega (arith, behind-begins i j differ L _ (s′ .mode) (s′ .core) q (d .within .core .lists .apart) (d .within .away) (d .starts) (order (ltb-true 0 lead h)) e))
         (λ h. omega (arith, ltb-false 0 lead h, between-sound j .0))
 
     from-start : t₁ ≤ start → Both a b (endAt s) (gateAt i s) s′ → Next
@@ -92,7 +91,7 @@ module _ (L : Load) (M : ℕ) (ok : Sound L M) (t₁ t₂ i j : ℕ) (differ : i
         (λ _. record {
           lead = r .lead;
           small = r .small;
-          order = λ h. started-after i j L (s′ .mode) (s′ .core) q (d .kept .later .0) (d .balanced .0) (d .starts) (r .order h);
+          order = λ h. started-behind i j L (s′ .mode) (s′ .core) q (d .kept .later .0) (d .balanced .0) (d .starts) (r .order h);
           late = rw (p .made .ends) late;
         }))
         (λ e.
@@ -107,7 +106,7 @@ module _ (L : Load) (M : ℕ) (ok : Sound L M) (t₁ t₂ i j : ℕ) (differ : i
         let x = accountAt i s′ in
         let y = accountAt j s′ in
         cases (behind i j (s′ .mode) (s′ .core))
-        (λ after. record { lead = M; small = omega arith; order = λ _. after; late = late-enters M x y early (omega (arith, due-parts x, due-parts y, between-sound i, between-sound j)) })
+        (λ first. record { lead = M; small = omega arith; order = λ _. first; late = late-enters M x y early (omega (arith, due-parts x, due-parts y, between-sound i, between-sound j)) })
         (λ not.
         let near = else-near i j M (s′ .mode) (s′ .core) (d .kept .credit) (d .balanced .0) (d .balanced .1) (between-sound j) not in
         record { lead = 0; small = omega arith; order = λ h. absurd (omega arith); late = late-enters M x y early (omega (arith, near)) })
@@ -128,7 +127,7 @@ module _ (L : Load) (M : ℕ) (ok : Sound L M) (t₁ t₂ i j : ℕ) (differ : i
         from-start (omega (arith, p .later)) (record {
           lead = x .lead;
           small = x .small;
-          order = λ h. settled-after i j L s (g .balanced .0) (wᵢ from to) (wⱼ from to) (x .order h);
+          order = λ h. settled-behind i j L s (g .balanced .0) (wᵢ from to) (wⱼ from to) (x .order h);
           late = late-settles M (gain L s) (wᵢ from to) (wⱼ from to) (accountAt i s) (accountAt j s) (accountAt i s′) (accountAt j s′) (move i .settles) (move j .settles) (x .late);
         }))
         (λ h.

@@ -1,8 +1,11 @@
 -- Laws of the bounds, for the excess of each listed flow and for the round.
-use Prim.Native.Nat.{ℕ, _+_, _≤_}
+use Prim.Native.Nat.{ℕ, zero, suc, _+_, _≤_}
 use mathlib.Core.Bool.{_||_}
 use mathlib.Core.List.{List, [], _∷_, _++_}
+use mathlib.Core.Path.{_≡_, refl}
+use native.Mathlib.Numerals.{sub-one}
 use native.Mathlib.Omega.{arith}
+use borrow.Author.Tests.{ne-eqb}
 use lib.Dec.{eqb}
 use Rattle.load.proofs.Cases.{by-test}
 use Rattle.rules.specs.declared.entry.Entry.{Entry}
@@ -35,3 +38,12 @@ called-within r waiting most c m =
     by-test (λ (r′ : Round). (r′ .credit ≤ most) × (r′ .most ≤ most) × (r′ .number ≤ r .number + 1)) (eqb (r .left) 0)
     (λ _. omega arith)
     (λ _. omega arith)
+
+-- the head of a list is taken, in a round that opens or in the current one
+pub call-cases : (P : Round → Type 0) (number left credit most behind : ℕ)
+    → (left ≡ 0 → P (record { number = number + 1; left = behind; credit = most; most = 0 }))
+    → ((k : ℕ) → left ≡ suc k → P (record { number = number; left = k; credit = credit; most = most }))
+    → P (called (record { number = number; left = left; credit = credit; most = most }) (suc behind))
+unfolding called opened used
+call-cases P number zero credit most behind opens current = rw sub-one (opens refl)
+call-cases P number (suc k) credit most behind opens current = rw (ne-eqb (suc k) 0 (λ e. absurd (omega arith)), sub-one) (current k refl)
