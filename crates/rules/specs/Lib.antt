@@ -2,6 +2,7 @@ pub mod Account
 pub mod Calls
 pub mod Counts
 pub mod EachBlock
+pub mod Exact
 pub mod Examples
 pub mod Fairness
 pub mod Load
