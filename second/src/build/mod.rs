@@ -8,3 +8,5 @@ pub mod plan_load;
 pub mod random;
 pub mod random_files;
 pub mod samples;
+pub mod unfair;
+pub mod unfair_found;

@@ -29,6 +29,14 @@ impl PlanLoad {
         self
     }
 
+    /// The same block so many times.
+    pub fn many(mut self, count: usize, flow: u32, arrival: u32, times: &[u32]) -> PlanLoad {
+        for _ in 0..count {
+            self.push(flow, arrival, times);
+        }
+        self
+    }
+
     /// Adds a block; stages without a time get 0.
     pub fn push(&mut self, flow: u32, arrival: u32, times: &[u32]) {
         let mut all = [0; 4];

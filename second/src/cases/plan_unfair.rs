@@ -1,21 +1,41 @@
-//! Loads in which two flows that wait get services as different as a short search can make them,
-//! and source 000's figure 2, in which they drift apart without end where no flow is held.
+//! Loads in which two flows that wait get services as different as is known, and as a short search
+//! can make them, from random loads and near the bound; and source 000's figure 2, in which they
+//! drift apart without end where no flow is held.
 
 use crate::build::loads::{self, Arrivals, Owners, Shape, Times};
 use crate::build::plan_load::{PlanLoad, ALL};
 use crate::build::random::Random;
+use crate::build::{unfair, unfair_found};
 use crate::cases::Cases;
-use crate::checks::fair;
+use crate::checks::services;
 use crate::rules::file::Block;
 
 /// The changes tried on one load.
 const STEPS: usize = 1_500;
 /// The largest time of these loads. The ratio counts, so a small number will do.
 const LARGEST: u32 = 10;
+/// The searches from each load near the bound.
+const SEARCHES: usize = 3;
 
 pub fn add(cases: &mut Cases) {
     figure_2(cases);
-    largest_found(cases);
+    known(cases);
+    searched(cases);
+    searched_near_the_bound(cases);
+}
+
+/// The loads that are known, and one of them cut at each of its blocks.
+fn known(cases: &mut Cases) {
+    for known in unfair::all() {
+        cases.plan(&known.load.ask(ALL), 0);
+    }
+    let load = unfair::three_stages(LARGEST);
+    for limit in 0..load.blocks.len() as u64 {
+        cases.plan(&load.ask(limit), 0);
+    }
+}
+
+fn searched(cases: &mut Cases) {
     let mut random = Random::new(20_240_107);
     for place in 0..20 {
         let shape = Shape {
@@ -26,8 +46,21 @@ pub fn add(cases: &mut Cases) {
             times: Times::Ties,
             owners: Owners::Mixed,
         };
-        let load = climb(&mut random, &shape);
+        let load = loads::make(&mut random, &shape);
+        let load = climb(&mut random, load);
         cases.plan(&load.ask(ALL), 0);
+    }
+}
+
+/// Searches that begin where the difference is almost as large as the bound allows: at the known
+/// loads of the largest time.
+fn searched_near_the_bound(cases: &mut Cases) {
+    let mut random = Random::new(20_240_108);
+    for start in [unfair::three_stages(LARGEST), unfair_found::four_of_10()] {
+        for _ in 0..SEARCHES {
+            let load = climb(&mut random, start.clone());
+            cases.plan(&load.ask(ALL), 0);
+        }
     }
 }
 
@@ -48,42 +81,16 @@ fn figure_2(cases: &mut Cases) {
     }
 }
 
-/// The load with the largest difference that a long search has found: flow 1 gets 67 ticks more
-/// than flow 0 from tick 22 up to 97, 6.7 times the largest time.
-fn largest_found(cases: &mut Cases) {
-    let mut load = PlanLoad::new(3, 2);
-    for (flow, arrival, times) in [
-        (0, 0, [10, 1, 10]),
-        (1, 3, [0, 1, 10]),
-        (0, 6, [10, 9, 9]),
-        (0, 6, [1, 1, 1]),
-        (1, 6, [0, 9, 10]),
-        (1, 18, [0, 10, 1]),
-        (0, 18, [0, 1, 1]),
-        (0, 18, [1, 1, 9]),
-        (1, 18, [0, 10, 1]),
-        (0, 19, [0, 0, 1]),
-        (1, 22, [9, 10, 0]),
-        (1, 26, [9, 9, 10]),
-        (1, 41, [10, 0, 0]),
-        (1, 41, [9, 10, 0]),
-    ] {
-        load.push(flow, arrival, &times);
-    }
-    cases.plan(&load.ask(ALL), 0);
-}
-
-/// Changes a random load step by step and keeps what makes the services differ no less. Steps on
-/// the level are kept too, since the way up leads over them.
-fn climb(random: &mut Random, shape: &Shape) -> PlanLoad {
-    let mut load = loads::make(random, shape);
-    let mut best = fair::ratio_of(&load);
+/// Changes a load step by step and keeps what makes the services differ no less. Steps on the level
+/// are kept too, since the way up leads over them.
+fn climb(random: &mut Random, mut load: PlanLoad) -> PlanLoad {
+    let mut best = services::ratio_of(&load);
     for _ in 0..STEPS {
         let mut changed = load.clone();
         for _ in 0..random.between(1, 3) {
             change(random, &mut changed);
         }
-        let ratio = fair::ratio_of(&changed);
+        let ratio = services::ratio_of(&changed);
         if !best.above(&ratio) {
             best = ratio;
             load = changed;

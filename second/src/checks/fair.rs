@@ -7,34 +7,18 @@ use crate::battery::case::{Call, Case};
 use crate::battery::plan_case::PlanCase;
 use crate::build::plan_load::PlanLoad;
 use crate::checks::plan::{self, require, Outcome};
+use crate::checks::services::{ratio, Ratio};
 use crate::checks::turns::Turns;
 use crate::rules::row::{self, Row, ROW_WORDS};
 
 /// In loads of more blocks the services aren't compared, since that would take too long.
-const MOST_COMPARED: usize = 60;
-/// Two flows that wait get services that differ by at most so many times the largest time.
-const MOST_TIMES: u64 = 10;
+pub const MOST_COMPARED: usize = 80;
+/// Two flows that wait get services that differ by at most so many times the largest time. Demand 3
+/// asks for ten; eight is what the rules keep, and is exact: `build::unfair` has loads that come
+/// within 5 ticks of it for any largest time.
+pub const MOST_TIMES: u64 = 8;
 /// The most turns of a flow that are begun and not finished.
 const MOST_TURNS: usize = 2;
-
-/// The largest difference of two services in a plan, and the largest stage time of its load.
-#[derive(Clone, Copy)]
-pub struct Ratio {
-    difference: u64,
-    largest_time: u64,
-}
-
-impl Ratio {
-    pub fn above(&self, other: &Ratio) -> bool {
-        self.difference * other.largest_time > other.difference * self.largest_time
-    }
-
-    /// To the nearest hundredth.
-    fn text(&self) -> String {
-        let hundredths = (200 * self.difference + self.largest_time) / (2 * self.largest_time);
-        format!("{}.{:02}", hundredths / 100, hundredths % 100)
-    }
-}
 
 /// What has been checked so far.
 struct Checked {
@@ -98,18 +82,23 @@ impl Checked {
             return Ok(());
         }
         self.whole += 1;
-        self.check_ratio(ratio(&turns))
-    }
-
-    fn check_ratio(&mut self, ratio: Ratio) -> Outcome {
-        if ratio.difference > MOST_TIMES * ratio.largest_time {
-            return Err(format!("unfair by {} ticks", ratio.difference));
-        }
+        let ratio = served_alike(&turns)?;
         if ratio.above(&self.largest) {
             self.largest = ratio;
         }
         Ok(())
     }
+}
+
+/// How unfair the plan is, where that is within the bound.
+pub fn served_alike(turns: &Turns) -> Result<Ratio, String> {
+    let ratio = ratio(turns);
+    let most = MOST_TIMES * ratio.largest_time;
+    if ratio.difference > most {
+        let over = format!("unfair by {} ticks of at most {}", ratio.difference, most);
+        return Err(over);
+    }
+    Ok(ratio)
 }
 
 /// A limited plan lists the first rows of the whole one.
@@ -135,84 +124,4 @@ fn two_turns(turns: &Turns) -> Outcome {
         require(good, "more than two turns under way", turn.first())?;
     }
     Ok(())
-}
-
-/// How unfair the plan of a load is.
-pub fn ratio_of(load: &PlanLoad) -> Ratio {
-    let rows = load.rows();
-    ratio(&Turns::of(load, &rows))
-}
-
-/// Of every two flows and every stretch of ticks at which both wait, the largest difference of
-/// their services between two ticks of the stretch.
-fn ratio(turns: &Turns) -> Ratio {
-    let times = turns.load.blocks.iter().flat_map(|block| block.times);
-    let ticks = ticks(turns);
-    let mut difference = 0;
-    for one in 0..turns.load.flows as u64 {
-        for other in one + 1..turns.load.flows as u64 {
-            difference = difference.max(largest_difference(turns, &ticks, one, other));
-        }
-    }
-    Ratio {
-        difference,
-        largest_time: u64::from(times.max().unwrap_or(1)),
-    }
-}
-
-/// The ticks at which something arrives, starts or finishes, in order. Between two of them no
-/// flow begins or ends to wait, and a flow's service grows by the same at every tick, by one for
-/// each of its blocks that is at its dominant stage. So the difference of two services is a
-/// straight line between them, and has its highest and lowest values at these ticks.
-fn ticks(turns: &Turns) -> Vec<u64> {
-    let mut ticks = Vec::new();
-    for row in turns.rows {
-        ticks.push(turns.arrival(row));
-        for span in &row.spans[..turns.load.stages] {
-            ticks.extend([span.start, span.finish]);
-        }
-    }
-    ticks.sort_unstable();
-    ticks.dedup();
-    ticks
-}
-
-/// The difference of two services between ticks t and u is the rise of their difference since
-/// tick 0 from t to u. So in a stretch in which both flows wait, whichever comes first, the
-/// largest is that between the highest and the lowest value.
-fn largest_difference(turns: &Turns, ticks: &[u64], one: u64, other: u64) -> u64 {
-    let mut largest = 0;
-    let mut stretch: Option<(i64, i64)> = None;
-    for &tick in ticks {
-        let value = service(turns, one, tick) as i64 - service(turns, other, tick) as i64;
-        // The tick belongs to the stretch before it too: the second tick of a pair is one at
-        // which the flows need not wait any more.
-        if let Some((lowest, highest)) = stretch {
-            stretch = Some((lowest.min(value), highest.max(value)));
-            largest = largest.max(highest.max(value) - lowest.min(value));
-        }
-        let both = waits_at(turns, one, tick) && waits_at(turns, other, tick);
-        stretch = match stretch {
-            Some(found) if both => Some(found),
-            None if both => Some((value, value)),
-            _ => None,
-        };
-    }
-    largest as u64
-}
-
-/// Whether a block of the flow has arrived and starts at stage 1 after the tick.
-fn waits_at(turns: &Turns, flow: u64, tick: u64) -> bool {
-    let mut own = turns.rows.iter().filter(|row| row.flow == flow);
-    own.any(|row| turns.arrival(row) <= tick && tick < row.spans[0].start)
-}
-
-/// What the flow's blocks get at their dominant stages from tick 0 up to but without this one.
-fn service(turns: &Turns, flow: u64, tick: u64) -> u64 {
-    let own = turns.rows.iter().filter(|row| row.flow == flow);
-    own.map(|row| {
-        let span = row.dominant_span();
-        tick.clamp(span.start, span.finish) - span.start
-    })
-    .sum()
 }

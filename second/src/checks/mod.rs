@@ -3,4 +3,5 @@
 
 pub mod fair;
 mod plan;
+pub mod services;
 pub mod turns;

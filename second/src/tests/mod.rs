@@ -1,7 +1,8 @@
 //! The self-tests: document 01's boundary examples as direct assertions, what the makers of the
-//! cases said against the answers, and what the case file has to contain. Those of the plan call
-//! and of the printing program have files of their own.
+//! cases said against the answers, and what the case file has to contain. Those of the plan call,
+//! of fairness and of the printing program have files of their own.
 
+mod fair;
 mod listing;
 mod plan;
 
@@ -55,7 +56,9 @@ pub fn run() -> Result<usize, String> {
     expectations(&mut checks, &made);
     contents(&mut checks, &made);
     case_file(&mut checks, &made);
-    plan::run(&mut checks, &made);
+    let plans = plan::plans(&made);
+    plan::run(&mut checks, &made, &plans);
+    fair::run(&mut checks, &plans);
     listing::run(&mut checks);
     if checks.failed.is_empty() {
         return Ok(checks.done);

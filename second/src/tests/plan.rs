@@ -16,7 +16,7 @@ use crate::tests::Checks;
 /// The numbers that the plan call can give.
 const NUMBERS: [usize; 8] = [0, 3, 4, 7, 8, 9, 10, 11];
 
-pub fn run(checks: &mut Checks, made: &[Made]) {
+pub fn run(checks: &mut Checks, made: &[Made], plans: &[PlanCase]) {
     small_examples(checks);
     examples_with_holds(checks);
     example_of_balances(checks);
@@ -27,14 +27,17 @@ pub fn run(checks: &mut Checks, made: &[Made]) {
     lines(checks);
     digests(checks);
     malformed_cases(checks);
-    let plans: Vec<PlanCase> = made
-        .iter()
+    tables(checks, plans);
+    contents(checks, made, plans);
+    events(checks, plans);
+}
+
+/// The cases of the plan call.
+pub fn plans(made: &[Made]) -> Vec<PlanCase> {
+    made.iter()
         .filter(|made| made.case.call == Call::Plan)
         .map(|made| PlanCase::of(&made.case).expect("a judged case"))
-        .collect();
-    tables(checks, &plans);
-    contents(checks, made, &plans);
-    events(checks, &plans);
+        .collect()
 }
 
 /// What document 01 says of a plan. A row is given without the words of the last two stages,
