@@ -20,13 +20,14 @@ use Rattle.rules.specs.Account.{called, noted, opened, used}
 use Rattle.rules.specs.Calls.{andThen, blocksVerdict, planVerdict, short}
 use Rattle.rules.specs.Counts.{one}
 use Rattle.rules.specs.EachBlock.{EachBlockOnce}
-use Rattle.rules.specs.Exact.{Accepts, Attained, wholePlan}
+use Rattle.rules.specs.Exact.{Accepts, Alike, Attained, wholePlan}
 use Rattle.rules.specs.Examples as table
 use Rattle.rules.specs.Fairness.{blockWaits, largestOf, largestTime, openTurns, servedBy, service, ServedAlike, ticksWithin, turnEnd, waitsAt, WaitsFrom}
 use Rattle.rules.specs.Load.{blockAt, Load, seek}
 use Rattle.rules.specs.Plan.{after, arrivals, arrived, begins, begun, busy, first, further, heldUntil, none-yet, oldest, onward, origin, plan, readied, rejoined, rowOf, rowsFrom, run, settled, spent, started, state, step, taken, tested, turnOf, upTo, waits, where-waits, withLine, withRound, woken}
 use Rattle.rules.specs.Stages.{lastRun, laterRun, runAt, wayOf}
 use Rattle.rules.specs.Waiting.{listed}
+use Rattle.rules.proofs.Demand3.{plan-alike}
 use Rattle.rules.proofs.EachBlock.{plan-each-block}
 
 module _ (L : Load) (f t₁ t₂ : ℕ) where
@@ -107,7 +108,10 @@ too-few times a less alike =
 pub seven-too-few : ((L : Load) → Accepts L → ServedAlike 7 L (wholePlan L)) → ⊥
 seven-too-few = too-few 7 attained (omega arith)
 
--- The plan that this is said of has each block of the load once.
+-- Eight does hold, and the plan that this is said of has each block of the load once.
+pub eight-enough : (L : Load) → Accepts L → Alike L (wholePlan L)
+eight-enough L e = plan-alike (L .counts) (L .counts .blocks) (L .table) _ _ e
+
 pub whole-each-block : (L : Load) → Accepts L → EachBlockOnce L (wholePlan L)
 whole-each-block L e = plan-each-block (L .counts) (L .counts .blocks) (L .table) _ _ e (omega arith)
 
