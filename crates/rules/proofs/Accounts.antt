@@ -104,11 +104,15 @@ module _ (M W : ℕ) where
   over (Out x) = M
   over (In x) = x .owed
 
+  -- what is left to serve of two turns
+  abbrev pub Left : ℕ → Account → Type 0
+  Left a x = a + given x ≤ over x + 2 * W + M
+
   -- Up to t₁: what is left to serve after t₁ is of two turns. `end` is the last finish so far, and a the service so far.
   pub record Early (t₁ a end gate : ℕ) (x : Account) : Type 0 where
     pub none : end ≤ t₁ → a ≡ 0
     pub one : gate ≤ t₁ → a + given x ≤ over x + W
-    pub two : a + given x ≤ over x + 2 * W + M
+    pub two : Left a x
 
   pub early-settles : (Waits : Type 0) (g : ℕ) {t₁ a end gate : ℕ} (x y : Account) → Sound x → Settles Waits g x y → Early t₁ a end gate x → Early t₁ a end gate y
   unfolding Settles given over standing
@@ -139,22 +143,32 @@ module _ (M W : ℕ) where
   early-ends (Out x) ok r = omega (arith, r .two)
   early-ends (In x) ok r = omega (arith, ok, r .two)
 
--- From t₁ on, of two flows that both wait: i, with account x and gate `gate`, has had a, and j, with account y, has had b.
--- Where all is served by t₂, what the two have had differs as what they are due and owe does (`none`), by up to 5 M, and s more where
--- j comes first in each round. Where i begins a turn, all that was started before its turn before that one is served, by the gate. So
--- what j has had is compared with i where i's last turn began (`one`) or its turn before that (`two`): j is due at most M there, and
--- nothing where it comes first, and i has had its turns since.
+-- From t₁ on, of two flows that both wait: i, with account x and gate `gate`, has had a, and j, with account y, has had b. Once all that
+-- is started is served, what they have had differs as what they are due and owe does (`none`), but for 5 M, and for s more where j comes
+-- first in each round. All that was started before i's last turn is served where i's gate is by t₂, and what was started before its turn
+-- before that in any case, since the last began after the gate. There `none` held, and j was due at most M - s. What i has had since is
+-- what it owes now (`one`), and the credit of one turn more (`two`).
 module _ (M : ℕ) where
-  pub record Late (t₂ a b s end gate : ℕ) (x y : Account) : Type 0 where
-    pub none : end ≤ t₂ → a + standing x .due + standing y .owed ≤ b + standing x .owed + standing y .due + 5 * M + s
-    pub one : gate ≤ t₂ → a + given x ≤ b + standing x .owed + 6 * M
-    pub two : a + given x ≤ b + standing x .owed + 7 * M
+  -- what it comes to
+  abbrev pub Close : ℕ → ℕ → Type 0
+  Close a b = a ≤ b + 8 * M
 
-  -- i's two last turns are left to serve, and j owes at most M above what is coming to i
-  pub late-enters : {t₁ t₂ a b s end gate : ℕ} (x y : Account) → Early M M t₁ a end gate x → coming x + standing y .owed ≤ standing y .due + M + s → Late t₂ a b s end gate x y
+  abbrev Even : ℕ → ℕ → ℕ → Account → Account → Type 0
+  Even a b s x y = a + standing x .due + standing y .owed ≤ b + standing x .owed + standing y .due + 5 * M + s
+
+  abbrev Had : ℕ → ℕ → ℕ → Account → Type 0
+  Had times a b x = a + given x ≤ b + standing x .owed + times * M
+
+  pub record Late (t₂ a b s end gate : ℕ) (x y : Account) : Type 0 where
+    pub none : end ≤ t₂ → Even a b s x y
+    pub one : gate ≤ t₂ → Had 6 a b x
+    pub two : Had 7 a b x
+
+  -- i's last two turns may be left to serve, and j may owe M above what it is due and not i
+  pub late-enters : {t₂ a b s end gate : ℕ} (x y : Account) → Left M M a x → coming x + standing y .owed ≤ standing y .due + M + s → Late t₂ a b s end gate x y
   unfolding coming given over standing
-  late-enters (Out x) y r near = record { none = λ _. omega (arith, r .two); one = λ _. omega (arith, r .two); two = omega (arith, r .two) }
-  late-enters (In x) y r near = record { none = λ _. omega (arith, r .two); one = λ _. omega (arith, r .two); two = omega (arith, r .two) }
+  late-enters (Out x) y left near = record { none = λ _. omega arith; one = λ _. omega arith; two = omega arith }
+  late-enters (In x) y left near = record { none = λ _. omega arith; one = λ _. omega arith; two = omega arith }
 
   pub late-settles : {Waits Waits′ : Type 0} {t₂ a b s end gate : ℕ} (g : ℕ) → Waits → Waits′ → (x y x′ y′ : Account) → Settles Waits g x x′ → Settles Waits′ g y y′
       → Late t₂ a b s end gate x y → Late t₂ a b s end gate x′ y′
@@ -171,9 +185,8 @@ module _ (M : ℕ) where
     abbrev StartsJ : Account → Account → Type 0
     StartsJ = Starts t₁ t₂ start last end e v gateⱼ gateⱼ′
 
-    starts-none-left : {a b s : ℕ} (x y x′ y′ : Account) → StartsI x x′ → StartsJ y y′ → Late t₂ a b s before gate x y
-        → end ≤ t₂ → a + u + standing x′ .due + standing y′ .owed ≤ b + v + standing x′ .owed + standing y′ .due + 5 * M + s
-    starts-none-left x y x′ y′ sₓ sᵧ r h =
+    starts-even : {a b s : ℕ} (x y x′ y′ : Account) → StartsI x x′ → StartsJ y y′ → Late t₂ a b s before gate x y → end ≤ t₂ → Even (a + u) (b + v) s x′ y′
+    starts-even x y x′ y′ sₓ sᵧ r h =
         let p = starts-spends t₁ t₂ start last end d u gate gate′ from x x′ sₓ in
         let q = starts-spends t₁ t₂ start last end e v gateⱼ gateⱼ′ from y y′ sᵧ in
         omega (arith, p .0, p .1, q .0, q .2 h, r .none (omega (arith, t)))
@@ -182,18 +195,18 @@ module _ (M : ℕ) where
         → Late t₂ a b s before gate x y → Late t₂ (a + u) (b + v) s end gate′ x′ y′
     unfolding Begins Starts given standing
     late-starts (Out x) y (Out x′) y′ ok first sₓ sᵧ r =
-        record { none = starts-none-left (Out x) y (Out x′) y′ sₓ sᵧ r; one = λ h. omega (arith, sₓ, r .one (omega (arith, sₓ))); two = omega (arith, sₓ, r .two) }
+        record { none = starts-even (Out x) y (Out x′) y′ sₓ sᵧ r; one = λ h. omega (arith, sₓ, r .one (omega (arith, sₓ))); two = omega (arith, sₓ, r .two) }
     late-starts (Out x) y (In x′) y′ ok first sₓ sᵧ r = record {
-      none = starts-none-left (Out x) y (In x′) y′ sₓ sᵧ r;
+      none = starts-even (Out x) y (In x′) y′ sₓ sᵧ r;
       one = λ h. omega (arith, sₓ, sₓ .0 .part, first tt, r .none (omega (arith, t, sₓ)));
       two = omega (arith, ok, sₓ, sₓ .0 .part, r .one (omega (arith, sₓ)));
     }
     late-starts (In x) y (In x′) y′ ok first sₓ sᵧ r = record {
-      none = starts-none-left (In x) y (In x′) y′ sₓ sᵧ r;
+      none = starts-even (In x) y (In x′) y′ sₓ sᵧ r;
       one = λ h. omega (arith, sₓ, sₓ .0 .part, r .one (omega (arith, sₓ)));
       two = omega (arith, sₓ, sₓ .0 .part, r .two);
     }
     late-starts (In x) y (Out x′) y′ ok first sₓ sᵧ r = absurd sₓ
 
-  pub late-ends : {t₂ a b s end gate : ℕ} (x y : Account) → Sound M M x → Late t₂ a b s end gate x y → a ≤ b + 8 * M
+  pub late-ends : {t₂ a b s end gate : ℕ} (x y : Account) → Sound M M x → Late t₂ a b s end gate x y → Close a b
   late-ends x y ok r = omega (arith, ok, r .two)

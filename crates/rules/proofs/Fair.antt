@@ -1,6 +1,6 @@
 -- The bound of demand 3: eight times the largest stage time. Up to t₁ the first flow's account is kept by `Early`; from the first
 -- start after t₁ on both are kept by `Late`, and, where the second comes first in each round, that it does.
-use Prim.Native.Nat.{ℕ, zero, suc, _+_, _*_, _≤_, _<_}
+use Prim.Native.Nat.{ℕ, zero, suc, _+_, _≤_, _<_}
 use mathlib.Core.Bool.{true}
 use mathlib.Core.List.{List, _∷_}
 use mathlib.Core.Path.{_≡_, refl}
@@ -14,13 +14,13 @@ use Rattle.rules.specs.Load.{Load}
 use Rattle.rules.specs.Plan.{Started, State, origin, run, settled, state, upTo}
 use Rattle.rules.proofs.Unstarted.{Open}
 use Rattle.rules.specs.Fairness.{servedBy, service, waitsAt, WaitsFrom}
-use Rattle.rules.proofs.Accounts.{Account, Begins, Early, Late, due-parts, early-ends, early-settles, early-starts, given, late-ends, late-enters, late-settles, late-starts, over, standing, starts-none}
+use Rattle.rules.proofs.Accounts.{Account, Begins, Close, Early, Late, due-parts, early-ends, early-settles, early-starts, given, late-ends, late-enters, late-settles, late-starts, over, standing, starts-none}
 use Rattle.rules.proofs.Accounts as accounts
 use Rattle.rules.proofs.Decisions.{account, gain}
 use Rattle.rules.proofs.Order.{Behind, behind-begins, behind, else-near, settled-behind, started-behind}
 use Rattle.rules.proofs.Standing.{allowed}
 use Rattle.rules.proofs.Starts.{Sound, endOf}
-use Rattle.rules.proofs.Steps.{Good, Moves, Stepped, between, good-sound, origin-good, run-next, stepped}
+use Rattle.rules.proofs.Steps.{Good, Moves, Stepped, good-sound, origin-good, run-next, stepped}
 use Rattle.rules.proofs.WaitingRows.{waits-open, waits-past}
 
 module _ (L : Load) (M : ℕ) (ok : Sound L M) (t₁ t₂ i j : ℕ) (differ : i ≡ j → ⊥) where
@@ -45,7 +45,7 @@ module _ (L : Load) (M : ℕ) (ok : Sound L M) (t₁ t₂ i j : ℕ) (differ : i
 
   data Phase (a b : ℕ) (s : State) : Type 0 where
     Before : Early M M t₁ a (endAt s) (gateAt i s) (accountAt i s) → Phase a b s
-    Inside : t₁ ≤ s .core .clock → a ≤ b + 8 * M → (s .core .clock < t₂ → Both a b (endAt s) (gateAt i s) s) → Phase a b s
+    Inside : t₁ ≤ s .core .clock → Close M a b → (s .core .clock < t₂ → Both a b (endAt s) (gateAt i s) s) → Phase a b s
 
   abbrev WaitsNow : ℕ → State → Type 0
   WaitsNow f s = t₁ ≤ s .core .clock → s .core .clock < t₂ → Open L (s .core .from) (s .core .line .next) f
@@ -106,10 +106,10 @@ module _ (L : Load) (M : ℕ) (ok : Sound L M) (t₁ t₂ i j : ℕ) (differ : i
         let x = accountAt i s′ in
         let y = accountAt j s′ in
         cases (behind i j (s′ .mode) (s′ .core))
-        (λ first. record { lead = M; small = omega arith; order = λ _. first; late = late-enters M x y early (omega (arith, due-parts x, due-parts y, between-sound i, between-sound j)) })
+        (λ first. record { lead = M; small = omega arith; order = λ _. first; late = late-enters M x y (early .two) (omega (arith, due-parts x, due-parts y, between-sound i, between-sound j)) })
         (λ not.
         let near = else-near i j M (s′ .mode) (s′ .core) (d .kept .credit) (d .balanced .0) (d .balanced .1) (between-sound j) not in
-        record { lead = 0; small = omega arith; order = λ h. absurd (omega arith); late = late-enters M x y early (omega (arith, near)) })
+        record { lead = 0; small = omega arith; order = λ h. absurd (omega arith); late = late-enters M x y (early .two) (omega (arith, near)) })
 
     -- a step, where both flows wait at the clock if it lies between the ticks
     phase-next : Good L M ok k s → WaitsNow i s → WaitsNow j s → Phase a b s → Next
@@ -135,7 +135,7 @@ module _ (L : Load) (M : ℕ) (ok : Sound L M) (t₁ t₂ i j : ℕ) (differ : i
         let none = starts-none t₁ t₂ start _ _ _ _ _ _ (omega (arith, p .later)) _ _ (move i .starts) in
         Inside (omega (arith, p .later, p .made .goes-on)) (omega (arith, none)) (λ to. absurd (omega (arith, p .later, p .made .goes-on))))
 
-  phase-ends : (k a b : ℕ) (s : State) → Good L M ok k s → Phase a b s → a ≤ b + 8 * M
+  phase-ends : (k a b : ℕ) (s : State) → Good L M ok k s → Phase a b s → Close M a b
   phase-ends k a b s g (Before e) = omega (arith, early-ends M M (accountAt i s) (state-sound i k s g) e)
   phase-ends k a b s g (Inside from bound r) = bound
 
@@ -150,7 +150,7 @@ module _ (L : Load) (M : ℕ) (ok : Sound L M) (t₁ t₂ i j : ℕ) (differ : i
   waiting-next f k s q rs p w = λ t from to past. waits-past (L .table) f t (q .row) rs (omega (arith, p .made .goes-on)) (w t from to (omega (arith, p .later, p .made .goes-on)))
 
   abbrev Bounded : ℕ → ℕ → List Row → Type 0
-  Bounded a b rs = a + service i t₁ t₂ rs ≤ b + service j t₁ t₂ rs + 8 * M
+  Bounded a b rs = Close M (a + service i t₁ t₂ rs) (b + service j t₁ t₂ rs)
 
   run-fair : (n k a b : ℕ) (s : State) → k + n ≤ L .counts .blocks → Good L M ok k s → Phase a b s → Waiting i (s .core .clock) (run L n s) → Waiting j (s .core .clock) (run L n s) → Bounded a b (run L n s)
   unfolding run service
@@ -174,7 +174,7 @@ module _ (L : Load) (M : ℕ) (ok : Sound L M) (t₁ t₂ i j : ℕ) (differ : i
 
 -- and of a flow and itself there is nothing to show
 pub origin-fair : (L : Load) (M : ℕ) (ok : Sound L M) (t₁ t₂ i j n : ℕ) → n ≤ L .counts .blocks → WaitsFrom (L .table) i t₁ t₂ (run L n (origin L)) → WaitsFrom (L .table) j t₁ t₂ (run L n (origin L))
-    → service i t₁ t₂ (run L n (origin L)) ≤ service j t₁ t₂ (run L n (origin L)) + 8 * M
+    → Close M (service i t₁ t₂ (run L n (origin L))) (service j t₁ t₂ (run L n (origin L)))
 origin-fair L M ok t₁ t₂ i j n h wᵢ wⱼ =
     cases (eqb i j)
     (λ e. rw (eqb-true i j e) (omega arith))

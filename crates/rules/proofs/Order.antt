@@ -34,7 +34,7 @@ use Rattle.rules.proofs.Unstarted.{Open, open-waits}
 use Rattle.rules.proofs.Waiting.{call-cases}
 
 abbrev order : List Entry → ℕ → List Entry → List Entry
-order middle left w = drop left w ++ (middle ++ take left w)
+order mid left w = drop left w ++ (mid ++ take left w)
 
 -- the flow that is held or in its turn
 abbrev middle : Mode → List Entry
@@ -230,18 +230,18 @@ module _ (i j : ℕ) where
           readied-behind c (keeps-parts (drop left w) _ (take left w) (keeps-leave _ (take left w) (other i oᵢ) (other j oⱼ)) .1 a))
 
     -- flows that arrive join the tail
-    record Line-behind (m : List Entry) (left : ℕ) (l : Line) : Type 0 where
+    record LineBehind (m : List Entry) (left : ℕ) (l : Line) : Type 0 where
       within : l .next ≤ L .counts .blocks
       long : left ≤ length (l .wait)
       is : before (order m left (l .wait)) ≡ true
 
-    arrivals-behind : (m : Mode) (t : ℕ) (mid : List Entry) (left : ℕ) (l : Line) → Line-behind mid left l → Line-behind mid left (arrivals L (L .counts .blocks - l .next) m t l)
+    arrivals-behind : (m : Mode) (t : ℕ) (mid : List Entry) (left : ℕ) (l : Line) → LineBehind mid left l → LineBehind mid left (arrivals L (L .counts .blocks - l .next) m t l)
     unfolding arrived
     arrivals-behind m t mid left l p =
-        arrivals-keep L m t (Line-behind mid left)
+        arrivals-keep L m t (LineBehind mid left)
         (λ l more p.
         let w = l .wait in
-        by-test (λ (v : List Entry). Line-behind mid left (record { next = l .next + 1; wait = v })) (busy m _ || listed _ w)
+        by-test (λ (v : List Entry). LineBehind mid left (record { next = l .next + 1; wait = v })) (busy m _ || listed _ w)
         (λ _. record { within = omega arith; long = p .long; is = p .is })
         (λ _. record {
           within = omega arith;
