@@ -1,13 +1,13 @@
 -- Laws of a list of flows of the load, none twice: what it keeps where flows join it and leave it, and that it is no longer than the
 -- load has flows. Each entry counts at a flow of the load, and no two at the same.
 use Prim.Native.Nat.{ℕ, zero, suc, _+_, _-_, _≤_, _<_}
-use mathlib.Core.Bool.{false, _||_, or-assoc, or-false}
+use mathlib.Core.Bool.{true, false, true≢false, _||_, or-assoc, or-false}
 use mathlib.Core.List.{List, [], _∷_, _++_}
 use mathlib.Core.Path.{_≡_, refl, sym, _∙_}
 use native.Mathlib.Omega.{arith}
-use borrow.Author.Tests.{eq-eqb, eqb-false, ne-eqb}
+use borrow.Author.Tests.{eq-eqb, eqb-false, eqb-true, ne-eqb}
 use lib.Dec.{eqb, leb}
-use lib.ListN.{length}
+use lib.ListN.{drop, length, take, take-append-drop}
 use Rattle.load.proofs.Cases as chain
 use Rattle.load.proofs.Cases.{by-test}
 use Rattle.rules.specs.declared.entry.Entry.{Entry}
@@ -55,6 +55,17 @@ apart-join e [] out a = (refl, tt)
 apart-join e (x ∷ w) out a =
     let differ = chain.or-false (eqb (x .flow) (e .flow)) (listed (e .flow) w) out in
     (rw (listed-join (x .flow) e w, a .0) (ne-eqb (e .flow) (x .flow) (λ q. eqb-false (x .flow) (e .flow) (differ .0) (sym q))), apart-join e w (differ .1) (a .1))
+
+-- a flow that is listed once is among the first entries or among the others
+pub parts-out : (f left : ℕ) (w : List Entry) → listed f w ≡ false → (listed f (take left w) ≡ false) × (listed f (drop left w) ≡ false)
+parts-out f left w out = chain.or-false (listed f (take left w)) (listed f (drop left w)) (sym (listed-append f (take left w) (drop left w)) ∙ rw (take-append-drop left w) out)
+
+pub parts-apart : (f left : ℕ) (w : List Entry) → Apart w → listed f (take left w) ≡ true → listed f (drop left w) ≡ false
+unfolding listed
+parts-apart f zero w a h = absurd (true≢false (sym h))
+parts-apart f (suc left) [] a h = absurd (true≢false (sym h))
+parts-apart f (suc left) (e ∷ w) a h =
+    chain.either (eqb (e .flow) f) (listed f (take left w)) h (λ own. parts-out f left w (rw (eqb-true (e .flow) f own) at (a .0)) .1) (λ more. parts-apart f left w (a .1) more)
 
 module _ {n : ℕ} {w : List Entry} where
   pub lists-few : Lists n w → length w ≤ n

@@ -4,15 +4,15 @@
 -- wait the same comes first in each round (`settled-behind`, `started-behind`). A flow that comes first is due nothing where the other
 -- begins its turn (`behind-begins`); and of one that doesn't, what it owes above its due is bounded with what is coming to the other
 -- (`else-near`).
-use Prim.Native.Nat.{ℕ, zero, suc, _+_, _-_, _≤_}
-use mathlib.Core.Bool.{Bool, true, false, true≢false, cond, _&&_, _||_, and-false, or-true}
+use Prim.Native.Nat.{ℕ, suc, _+_, _-_, _≤_}
+use mathlib.Core.Bool.{Bool, true, false, true≢false, _&&_, _||_, and-false, or-true}
 use mathlib.Core.List.{List, [], _∷_, _++_, append-assoc, append-nil}
 use mathlib.Core.Option.{some}
 use mathlib.Core.Path.{_≡_, refl, sym, _∙_}
 use native.Mathlib.Omega.{arith}
 use borrow.Author.Tests.{eqb-true, ne-eqb}
 use lib.Dec.{eqb, leb}
-use lib.ListN.{drop, length, length-append, take, take-append-drop}
+use lib.ListN.{drop, length, length-append, take}
 use lib.Seq.{drop-append-le, drop-length, drop-nil, take-append-le, take-length, take-nil}
 use Rattle.load.proofs.Cases.{and-true, by-test, cases, either, or-false}
 use Rattle.rules.specs.declared.entry.Entry.{Entry}
@@ -24,12 +24,12 @@ use Rattle.rules.specs.Load.{Load}
 use Rattle.rules.specs.Plan.{Core, Line, Started, State, after, arrivals, arrived, begins, begun, busy, first, further, heldUntil, onward, readied, rejoined, rowOf, settled, spent, started, state, taken, tested, turnOf, upTo, waits, where-waits, withLine, withRound, woken}
 use Rattle.rules.specs.Waiting.{Apart, listed}
 use Rattle.rules.specs.Within.{Away}
-use Rattle.rules.proofs.Accounts.{Begins, Sound, Standing, coming, given, standing}
+use Rattle.rules.proofs.Accounts.{Begins, Sound, coming, given, standing}
 use Rattle.rules.proofs.Balances.{HeldBalanced, Listed, Split}
 use Rattle.rules.proofs.Bounds.{where-some}
 use Rattle.rules.proofs.Decisions.{account}
-use Rattle.rules.proofs.Lists.{arrivals-keep, listed-append}
-use Rattle.rules.proofs.Standing.{allowed, split-length, standingIn}
+use Rattle.rules.proofs.Lists.{arrivals-keep, listed-append, parts-apart, parts-out}
+use Rattle.rules.proofs.Standing.{allowed, due-all, due-within, split-length, standingIn}
 use Rattle.rules.proofs.Unstarted.{Open, open-waits}
 use Rattle.rules.proofs.Waiting.{call-cases}
 
@@ -44,33 +44,6 @@ middle (InTurn t) = record { flow = t .flow; excess = 0 } ∷ []
 
 order-join : (m : List Entry) (left : ℕ) (e : Entry) (w : List Entry) → left ≤ length w → order m left (w ++ (e ∷ [])) ≡ drop left w ++ (e ∷ (m ++ take left w))
 order-join m left e w h = rw (drop-append-le left w (e ∷ []) h, take-append-le left w (e ∷ []) h) (append-assoc (drop left w) (e ∷ []) (m ++ take left w))
-
--- A flow of the first entries is due its allowance, and no other is due anything.
-due-within : (f left allowance : ℕ) (w : List Entry) → standingIn f left allowance w .due ≤ cond (listed f (take left w)) allowance 0
-unfolding listed standingIn
-due-within f left allowance [] = omega arith
-due-within f zero allowance (e ∷ w) = by-test (λ (x : Standing). x .due ≤ 0) (eqb (e .flow) f) (λ _. omega arith) (λ _. due-within f zero allowance w)
-due-within f (suc left) allowance (e ∷ w) = cases (eqb (e .flow) f) (λ own. rw own (omega arith)) (λ other. rw other (due-within f left allowance w))
-
-due-all : (f left credit most M : ℕ) (w : List Entry) → credit ≤ M → Split left credit most w → listed f (drop left w) ≡ false →
-    let x = standingIn f left credit w in
-    credit + x .owed ≤ x .due + M
-unfolding Split listed standingIn
-due-all f left credit most M [] h s out = omega arith
-due-all f zero credit most M (e ∷ w) h s out = let o = or-false (eqb (e .flow) f) (listed f w) out in rw (o .0) (due-all f zero credit most M w h (s .1) (o .1))
-due-all f (suc left) credit most M (e ∷ w) h s out =
-    by-test (λ (x : Standing). credit + x .owed ≤ x .due + M) (eqb (e .flow) f) (λ _. omega (arith, s .0)) (λ _. due-all f left credit most M w h (s .1) out)
-
--- a flow that is listed once is among the first entries or among the others
-parts-out : (f left : ℕ) (w : List Entry) → listed f w ≡ false → (listed f (take left w) ≡ false) × (listed f (drop left w) ≡ false)
-parts-out f left w out = or-false (listed f (take left w)) (listed f (drop left w)) (sym (listed-append f (take left w) (drop left w)) ∙ rw (take-append-drop left w) out)
-
-parts-apart : (f left : ℕ) (w : List Entry) → Apart w → listed f (take left w) ≡ true → listed f (drop left w) ≡ false
-unfolding listed
-parts-apart f zero w a h = absurd (true≢false (sym h))
-parts-apart f (suc left) [] a h = absurd (true≢false (sym h))
-parts-apart f (suc left) (e ∷ w) a h =
-    either (eqb (e .flow) f) (listed f (take left w)) h (λ own. parts-out f left w (rw (eqb-true (e .flow) f own) at (a .0)) .1) (λ more. parts-apart f left w (a .1) more)
 
 module _ (i j : ℕ) where
   -- j stands before i

@@ -7,7 +7,7 @@ use mathlib.Core.Path.{_≡_, refl, sym, _∙_}
 use native.Mathlib.Omega.{arith}
 use borrow.Author.Tests.{eq-eqb, eqb-true}
 use lib.Dec.{eqb, leb}
-use lib.ListN.{length, length-append}
+use lib.ListN.{drop, length, length-append, take}
 use Rattle.load.proofs.Cases.{by-test, cases, either, or-false}
 use Rattle.rules.specs.declared.entry.Entry.{Entry}
 use Rattle.rules.specs.declared.mode.Mode.{Mode}
@@ -50,6 +50,22 @@ standing-sound f zero credit most M (e ∷ w) h k s =
     by-test (λ (x : Standing). Sound M M (Out x)) (eqb (e .flow) f) (λ _. omega (arith, s .0)) (λ _. standing-sound f zero credit most M w h k (s .1))
 standing-sound f (suc left) credit most M (e ∷ w) h k s =
     by-test (λ (x : Standing). Sound M M (Out x)) (eqb (e .flow) f) (λ _. omega (arith, s .0)) (λ _. standing-sound f left credit most M w h k (s .1))
+
+-- A flow of the first entries is due its allowance, and no other is due anything.
+pub due-within : (f left allowance : ℕ) (w : List Entry) → standingIn f left allowance w .due ≤ cond (listed f (take left w)) allowance 0
+unfolding listed standingIn
+due-within f left allowance [] = omega arith
+due-within f zero allowance (e ∷ w) = by-test (λ (x : Standing). x .due ≤ 0) (eqb (e .flow) f) (λ _. omega arith) (λ _. due-within f zero allowance w)
+due-within f (suc left) allowance (e ∷ w) = cases (eqb (e .flow) f) (λ own. rw own (omega arith)) (λ other. rw other (due-within f left allowance w))
+
+pub due-all : (f left credit most M : ℕ) (w : List Entry) → credit ≤ M → Split left credit most w → listed f (drop left w) ≡ false →
+    let x = standingIn f left credit w in
+    credit + x .owed ≤ x .due + M
+unfolding Split listed standingIn
+due-all f left credit most M [] h s out = omega arith
+due-all f zero credit most M (e ∷ w) h s out = let o = or-false (eqb (e .flow) f) (listed f w) out in rw (o .0) (due-all f zero credit most M w h (s .1) (o .1))
+due-all f (suc left) credit most M (e ∷ w) h s out =
+    by-test (λ (x : Standing). credit + x .owed ≤ x .due + M) (eqb (e .flow) f) (λ _. omega (arith, s .0)) (λ _. due-all f left credit most M w h (s .1) out)
 
 module _ (f allowance : ℕ) where
   -- a flow joins the tail: another, or this one with no excess
