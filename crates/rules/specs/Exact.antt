@@ -1,5 +1,5 @@
 -- How exact demand 3 is. It asks for ten times the largest stage time (`Fair`). The plan of every load that the plan call accepts keeps
--- eight (`Alike`), and no smaller number would do: loads come within 5 ticks of it (`Attained`).
+-- eight (`Alike`), and no smaller whole number would do: loads come within 5 ticks of it (`Attained`).
 use Prim.Native.Nat.{ℕ, _+_, _*_}
 use mathlib.Core.List.{List}
 use mathlib.Core.Path.{_≡_}
