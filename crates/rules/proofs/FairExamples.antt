@@ -80,7 +80,7 @@ tight L =
     }
 
 -- On an `unfolding` line this stands for all that is computed with below.
-unfoldable pub computing : Unit {0}
+computing : Unit {0}
 unfolding tight table.E2 table.E3 table.E5 table.E11 table.three-stages table.joined table.loadOf waitsThrough waitsAt blockWaits openTurns turnEnd one largestOf largestTime service servedBy ticksWithin andThen blocksVerdict planVerdict short given allZero blockVerdict countsVerdict overLimit timeOver blockAt blockOf seek dominantStage dominantTime called noted opened used after arrivals arrived begins begun busy first further heldUntil none-yet oldest onward origin plan readied rejoined rowOf rowsFrom run settled spent started state step taken tested turnOf upTo waits where-waits withLine withRound woken lastRun laterRun runAt wayOf listed
 computing = record {}
 

@@ -36,7 +36,7 @@ use Rattle.rules.proofs.Waiting.{call-cases}
 abbrev order : List Entry → ℕ → List Entry → List Entry
 order mid left w = drop left w ++ (mid ++ take left w)
 
--- the flow that is held or in its turn
+-- the flow that is held, as the head that it was, or the one in its turn
 abbrev middle : Mode → List Entry
 middle Idle = []
 middle (Holds h) = record { flow = h .flow; excess = h .excess } ∷ []
@@ -70,7 +70,7 @@ module _ (i j : ℕ) where
   before-alone [] e y other hⱼ hᵢ = rw (ne-eqb (e .flow) j other) (before-none y hᵢ)
   before-alone (a ∷ x) e y other hⱼ hᵢ = let out = or-false (eqb (a .flow) j) (listed j x) hⱼ in rw (out .0) (before-alone x e y other (out .1) hᵢ)
 
-  -- a list that has all of this that another has: flows may join, and others than these two leave
+  -- The second list has i, and j before i, where the first does: flows may join, and others than these two leave.
   abbrev Keeps : List Entry → List Entry → Type 0
   Keeps v w = (listed i v ≡ true → listed i w ≡ true) × (before v ≡ true → before w ≡ true)
 
