@@ -55,7 +55,7 @@ struct xarbulest_row {
     uint64_t turn;
     uint64_t balance; /* before the block */
     uint64_t hold;
-    uint64_t dominant_stage;
+    uint64_t dominant_stage; /* the one with the largest time; of several, the highest numbered */
     struct {
         uint64_t start;
         uint64_t finish;

@@ -1,4 +1,4 @@
-//! The second program, from document 01 alone. It makes the file of cases for the four calls
+//! The second program, from documents 01 and 02 alone. It makes the file of cases for the four calls
 //! (soundness, reader, name, plan) and says what the line of each case must be; and it makes files
 //! for the printing program and says what that must print. Commands:
 //!
@@ -13,7 +13,7 @@
 //!
 //! The folders, of which each uses those above it:
 //!
-//!   rules      document 01's rules
+//!   rules      the documents' rules
 //!   battery    a case, its form in the case file, its answer and the answer's line
 //!   build      load files and loads, made part by part or at random
 //!   checks     what plans promise, checked on their rows

@@ -16,10 +16,10 @@ pub dominant-time : (b : Block) → DominantAt b (dominantStage b)
 unfolding dominantStage dominantTime
 dominant-time b =
     let most = dominantTime b in
-    by-test (DominantAt b) (eqb (b .time1) most) (λ e. (omega arith, omega arith, eqb-true _ _ e))
-    (λ d₁. by-test (DominantAt b) (eqb (b .time2) most) (λ e. (omega arith, omega arith, eqb-true _ _ e))
-    (λ d₂. by-test (DominantAt b) (eqb (b .time3) most) (λ e. (omega arith, omega arith, eqb-true _ _ e))
-    (λ d₃. (omega arith, omega arith, omega (arith, eqb-false (b .time1) most d₁, eqb-false (b .time2) most d₂, eqb-false (b .time3) most d₃)))))
+    by-test (DominantAt b) (eqb (b .time4) most) (λ e. (omega arith, omega arith, eqb-true _ _ e))
+    (λ d₄. by-test (DominantAt b) (eqb (b .time3) most) (λ e. (omega arith, omega arith, eqb-true _ _ e))
+    (λ d₃. by-test (DominantAt b) (eqb (b .time2) most) (λ e. (omega arith, omega arith, eqb-true _ _ e))
+    (λ d₂. (omega arith, omega arith, omega (arith, eqb-false (b .time2) most d₂, eqb-false (b .time3) most d₃, eqb-false (b .time4) most d₄)))))
 
 pub dominant-above : (b : Block) → 0 < b .time1 + b .time2 + b .time3 + b .time4 → 0 < dominantTime b
 unfolding dominantTime

@@ -20,19 +20,19 @@ pub fn time(block: Block) -> u32
     )
 }
 
-// The stage with the largest time; of several, the lowest numbered.
+// The stage with the largest time; of several, the highest numbered.
 pub fn stage(block: Block) -> u32
     ensures { λ r. ⌜ r ≡ dominantStage block ⌝ }
 {
     let most = time(block);
-    if block.time1 == most {
-        return 1;
-    }
-    if block.time2 == most {
-        return 2;
+    if block.time4 == most {
+        return 4;
     }
     if block.time3 == most {
         return 3;
     }
-    4
+    if block.time2 == most {
+        return 2;
+    }
+    1
 }

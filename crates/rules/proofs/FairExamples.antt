@@ -1,7 +1,7 @@
 -- What demand 3 promises isn't empty, and eight times is exact. There is a load for a largest stage time L in which two flows wait from
--- tick 3 L - 1 up to 10 L and one receives 8 L - 5 ticks more than the other, computed for L = 10 and for L = 10,000,000, the largest
+-- tick 3 L up to 10 L + 1 and one receives 8 L - 4 ticks more than the other, computed for L = 10 and for L = 10,000,000, the largest
 -- that is accepted. So seven times would be false. And what its words mean at their edges, on loads of the table of examples: a tick that
--- is an arrival, a start or a finish, a run that is cut, a turn of several blocks.
+-- is an arrival, a start or a finish, a run that is cut, a block with equal times, a turn of several blocks.
 use Prim.Native.Nat.{ℕ, _+_, _*_, _-_, _<_}
 use mathlib.Core.Bool.{Bool, true, false, or-true, true≢false, _&&_, _||_}
 use mathlib.Core.List.{List, [], _∷_, map}
@@ -67,21 +67,22 @@ tight L =
           block 3 0 1 0 L
           -- rounds 2 and 3: flow 2 has stage 2 up to tick 2 L + 1, and leaves an excess of L, the credit of round 3
           ∷ block 2 1 0 L 0 ∷ block 2 1 0 L 0 ∷ block 2 1 0 0 1
-          -- and flow 0 has a turn of 2 L in each, of which it receives 4 L - 1 from tick 3 L - 1 on; it runs empty twice, so twice an excess of L is dropped
-          ∷ block 0 1 0 0 1 ∷ block 0 1 0 (L - 2) (L - 1) ∷ block 0 1 0 0 L
+          -- and flow 0 has a turn of 2 L in each, of which it receives 4 L - 1 from tick 3 L on (its block of twice L - 1 counts at stage 3); it runs
+          -- empty twice, so twice an excess of L is dropped
+          ∷ block 0 1 0 0 1 ∷ block 0 1 0 (L - 1) (L - 1) ∷ block 0 1 0 0 L
           -- (flow 3 has stage 1 for two ticks, so that flow 0 has left and is back when round 3 opens)
           ∷ block 3 1 2 0 0
           ∷ block 0 2 0 0 L ∷ block 0 2 1 0 L
-          -- round 4: flow 1 is alone, with credit 0, up to tick 3 L + 2, and has an excess of L; of the others it receives 1 tick in round 5 and none before 10 L
+          -- round 4: flow 1 is alone, with credit 0, up to tick 3 L + 2, and has an excess of L; of the others it receives 1 tick in round 5 and none before 10 L + 1
           ∷ block 1 joins L 0 0 ∷ block 1 joins 0 0 1 ∷ block 1 joins 0 0 L ∷ block 1 joins 0 0 L ∷ block 1 joins 0 0 L
-          -- rounds 5 to 7: flow 0 is back before flow 1 is listed again, and receives 2 L, L and L up to 10 L; both wait with a block of round 8
+          -- rounds 5 to 7: flow 0 is back before flow 1 is listed again, and receives 2 L, L and L up to 10 L + 1; both wait with a block of round 8
           ∷ block 0 back 0 0 L ∷ block 0 back 0 0 L ∷ block 0 back 0 0 L ∷ block 0 back L 0 0 ∷ block 0 back 0 0 1
           ∷ []);
     }
 
 -- On an `unfolding` line this stands for all that is computed with below.
 computing : Unit {0}
-unfolding tight table.E2 table.E3 table.E5 table.E11 table.three-stages table.joined table.loadOf waitsThrough waitsAt blockWaits openTurns turnEnd one largestOf largestTime service servedBy ticksWithin andThen blocksVerdict planVerdict short given allZero blockVerdict countsVerdict overLimit timeOver blockAt blockOf seek dominantStage dominantTime called noted opened used after arrivals arrived begins begun busy first further heldUntil none-yet oldest onward origin plan readied rejoined rowOf rowsFrom run settled spent started state step taken tested turnOf upTo waits where-waits withLine withRound woken lastRun laterRun runAt wayOf listed
+unfolding tight table.E2 table.E3 table.E5 table.E9 table.E11 table.three-stages table.joined table.loadOf waitsThrough waitsAt blockWaits openTurns turnEnd one largestOf largestTime service servedBy ticksWithin andThen blocksVerdict planVerdict short given allZero blockVerdict countsVerdict overLimit timeOver blockAt blockOf seek dominantStage dominantTime called noted opened used after arrivals arrived begins begun busy first further heldUntil none-yet oldest onward origin plan readied rejoined rowOf rowsFrom run settled spent started state step taken tested turnOf upTo waits where-waits withLine withRound woken lastRun laterRun runAt wayOf listed
 computing = record {}
 
 -- what has to be computed of a load
@@ -91,14 +92,14 @@ attains : {largest more : ℕ} (L : Load) (i j t₁ t₂ : ℕ) → Accepts L �
 attains L i j t₁ t₂ ok is wᵢ wⱼ e =
     record { load = L; accepted = ok; largest-time = is; i = i; j = j; t₁ = t₁; t₂ = t₂; i-waits = through L i t₁ t₂ _ wᵢ; j-waits = through L j t₁ t₂ _ wⱼ; received = e }
 
-pub attained : Attained 10 75
+pub attained : Attained 10 76
 unfolding computing
-attained = attains (tight 10) 0 1 29 100 refl refl refl refl refl
+attained = attains (tight 10) 0 1 30 101 refl refl refl refl refl
 
 -- with the largest time that a block may have
-pub attained-largest : Attained 10_000_000 79_999_995
+pub attained-largest : Attained 10_000_000 79_999_996
 unfolding computing
-attained-largest = attains (tight 10_000_000) 0 1 29_999_999 100_000_000 refl refl refl refl refl
+attained-largest = attains (tight 10_000_000) 0 1 30_000_000 100_000_001 refl refl refl refl refl
 
 -- A number of times that makes less than what is attained can't hold of every load that the plan call accepts.
 pub too-few : {largest more : ℕ} (times : ℕ) → Attained largest more → times * largest < more → ((L : Load) → Accepts L → ServedAlike times L (wholePlan L)) → ⊥
@@ -130,6 +131,8 @@ pub record Edges : Type 0 where
   -- E2: the runs at the dominant stage are 1-4 and 5-8, for flow 0 at stage 2, for flow 1 at stage 1
   pub served-0 : map (λ t. service 0 2 t (rowsOf table.E2)) (1 ∷ 2 ∷ 3 ∷ 4 ∷ 5 ∷ 6 ∷ 8 ∷ 9 ∷ []) ≡ 0 ∷ 0 ∷ 1 ∷ 2 ∷ 2 ∷ 3 ∷ 5 ∷ 5 ∷ []
   pub served-1 : map (λ t. service 1 t 7 (rowsOf table.E2)) (0 ∷ 1 ∷ 2 ∷ 4 ∷ 5 ∷ 6 ∷ 7 ∷ []) ≡ 5 ∷ 5 ∷ 4 ∷ 2 ∷ 2 ∷ 1 ∷ 0 ∷ []
+  -- E9: of two runs as long, 0-3 and 3-6, the one at stage 2 counts
+  pub served-equal : map (λ t. service 0 0 t (rowsOf table.E9)) (3 ∷ 4 ∷ 6 ∷ []) ≡ 0 ∷ 1 ∷ 3 ∷ []
   -- E5: the first blocks take 2, 1, 1, 5
   pub largest : map (largestOf (blocksOf table.E5)) (0 ∷ 1 ∷ 3 ∷ 4 ∷ []) ≡ 0 ∷ 2 ∷ 2 ∷ 5 ∷ []
   -- all blocks of E5, and E3, whose blocks are (1,10)
@@ -141,7 +144,7 @@ pub record Edges : Type 0 where
 
 pub edges : Edges
 unfolding computing
-edges = record { waits = refl; waits-other = refl; waits-over = refl; served-0 = refl; served-1 = refl; largest = refl; largest-all = refl; open-E3 = refl; open-three = refl }
+edges = record { waits = refl; waits-other = refl; waits-over = refl; served-0 = refl; served-1 = refl; served-equal = refl; largest = refl; largest-all = refl; open-E3 = refl; open-three = refl }
 
 -- so it waits from 4 up to but without 11, and not from 3 on
 pub waits-from-4 : WaitsFrom (blocksOf table.E11) 0 4 11 (rowsOf table.E11)

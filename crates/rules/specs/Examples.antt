@@ -1,5 +1,5 @@
--- The starred examples of document 01, loads of our own for what they do not catch, and refusals, as one table under one
--- statement of the plan call.
+-- The starred examples of document 01 (T-01 gives equal times to the later stage, which E9 and E11 show), loads of our own for what they
+-- do not catch, and refusals, as one table under one statement of the plan call.
 use Prim.Native.Nat.{ℕ, zero, suc, _+_, _*_}
 use mathlib.Core.Bool.{Bool, true, false, _&&_}
 use mathlib.Core.List.{List, [], _∷_, _++_}
@@ -278,7 +278,7 @@ E9 = record {
       ∷ [];
   limit = 18446744073709551615;
   rows =
-      (0 ∷ 0 ∷ 1 ∷ 1 ∷ 0 ∷ 0 ∷ 1 ∷ 0 ∷ 3 ∷ 3 ∷ 6 ∷ 0 ∷ 0 ∷ 0 ∷ 0 ∷ [])
+      (0 ∷ 0 ∷ 1 ∷ 1 ∷ 0 ∷ 0 ∷ 2 ∷ 0 ∷ 3 ∷ 3 ∷ 6 ∷ 0 ∷ 0 ∷ 0 ∷ 0 ∷ [])
       ∷ [];
   records =
       (1 ∷ 1 ∷ 3 ∷ [])
@@ -331,7 +331,7 @@ E11 = record {
   rows =
       (0 ∷ 1 ∷ 1 ∷ 1 ∷ 0 ∷ 0 ∷ 2 ∷ 0 ∷ 1 ∷ 1 ∷ 11 ∷ 0 ∷ 0 ∷ 0 ∷ 0 ∷ [])
       ∷ (1 ∷ 0 ∷ 1 ∷ 2 ∷ 0 ∷ 0 ∷ 2 ∷ 1 ∷ 2 ∷ 11 ∷ 21 ∷ 0 ∷ 0 ∷ 0 ∷ 0 ∷ [])
-      ∷ (2 ∷ 0 ∷ 2 ∷ 3 ∷ 0 ∷ 7 ∷ 1 ∷ 11 ∷ 12 ∷ 21 ∷ 22 ∷ 0 ∷ 0 ∷ 0 ∷ 0 ∷ [])
+      ∷ (2 ∷ 0 ∷ 2 ∷ 3 ∷ 0 ∷ 7 ∷ 2 ∷ 11 ∷ 12 ∷ 21 ∷ 22 ∷ 0 ∷ 0 ∷ 0 ∷ 0 ∷ [])
       ∷ [];
   records =
       (2 ∷ 2 ∷ 11 ∷ [])
@@ -473,22 +473,28 @@ last-of-64 = record {
   counts = 3 ∷ 3 ∷ 3 ∷ 1 ∷ 9 ∷ 31 ∷ [];
 }
 
--- Of equal times at later stages the lowest numbered stage is dominant too.
-unfoldable pub equal-later : Example
-equal-later = record {
-  stages = 3;
+-- Of equal largest times the latest stage is dominant: at stages 2 and 3, at all four, and where the stages between take no time.
+unfoldable pub equal-times : Example
+equal-times = record {
+  stages = 4;
   flows = 1;
   blocks =
       (0 ∷ 0 ∷ 1 ∷ 3 ∷ 3 ∷ 0 ∷ [])
+      ∷ (0 ∷ 0 ∷ 2 ∷ 2 ∷ 2 ∷ 2 ∷ [])
+      ∷ (0 ∷ 0 ∷ 3 ∷ 0 ∷ 3 ∷ 0 ∷ [])
+      ∷ (0 ∷ 0 ∷ 3 ∷ 0 ∷ 0 ∷ 3 ∷ [])
       ∷ [];
   limit = 18446744073709551615;
   rows =
-      (0 ∷ 0 ∷ 1 ∷ 1 ∷ 0 ∷ 0 ∷ 2 ∷ 0 ∷ 1 ∷ 1 ∷ 4 ∷ 4 ∷ 7 ∷ 0 ∷ 0 ∷ [])
+      (0 ∷ 0 ∷ 1 ∷ 1 ∷ 0 ∷ 0 ∷ 3 ∷ 0 ∷ 1 ∷ 1 ∷ 4 ∷ 4 ∷ 7 ∷ 7 ∷ 7 ∷ [])
+      ∷ (1 ∷ 0 ∷ 2 ∷ 2 ∷ 0 ∷ 6 ∷ 4 ∷ 7 ∷ 9 ∷ 9 ∷ 11 ∷ 11 ∷ 13 ∷ 13 ∷ 15 ∷ [])
+      ∷ (2 ∷ 0 ∷ 3 ∷ 3 ∷ 0 ∷ 4 ∷ 3 ∷ 13 ∷ 16 ∷ 16 ∷ 16 ∷ 16 ∷ 19 ∷ 19 ∷ 19 ∷ [])
+      ∷ (3 ∷ 0 ∷ 4 ∷ 4 ∷ 0 ∷ 3 ∷ 4 ∷ 19 ∷ 22 ∷ 22 ∷ 22 ∷ 22 ∷ 22 ∷ 22 ∷ 25 ∷ [])
       ∷ [];
   records =
-      (1 ∷ 1 ∷ 3 ∷ [])
+      (4 ∷ 4 ∷ 11 ∷ [])
       ∷ [];
-  counts = 1 ∷ 1 ∷ 1 ∷ 0 ∷ 0 ∷ 7 ∷ [];
+  counts = 4 ∷ 4 ∷ 4 ∷ 3 ∷ 13 ∷ 25 ∷ [];
 }
 
 -- The planner runs empty and goes on at the next arrival; the excess of a flow that left is forgotten.
@@ -505,9 +511,9 @@ idle-again = record {
   limit = 18446744073709551615;
   rows =
       (0 ∷ 0 ∷ 1 ∷ 1 ∷ 0 ∷ 0 ∷ 1 ∷ 0 ∷ 3 ∷ 3 ∷ 4 ∷ 0 ∷ 0 ∷ 0 ∷ 0 ∷ [])
-      ∷ (1 ∷ 1 ∷ 2 ∷ 2 ∷ 0 ∷ 0 ∷ 1 ∷ 20 ∷ 21 ∷ 21 ∷ 22 ∷ 0 ∷ 0 ∷ 0 ∷ 0 ∷ [])
+      ∷ (1 ∷ 1 ∷ 2 ∷ 2 ∷ 0 ∷ 0 ∷ 2 ∷ 20 ∷ 21 ∷ 21 ∷ 22 ∷ 0 ∷ 0 ∷ 0 ∷ 0 ∷ [])
       ∷ (2 ∷ 0 ∷ 2 ∷ 3 ∷ 0 ∷ 0 ∷ 2 ∷ 21 ∷ 22 ∷ 22 ∷ 26 ∷ 0 ∷ 0 ∷ 0 ∷ 0 ∷ [])
-      ∷ (3 ∷ 0 ∷ 3 ∷ 4 ∷ 0 ∷ 0 ∷ 1 ∷ 22 ∷ 24 ∷ 26 ∷ 28 ∷ 0 ∷ 0 ∷ 0 ∷ 0 ∷ [])
+      ∷ (3 ∷ 0 ∷ 3 ∷ 4 ∷ 0 ∷ 0 ∷ 2 ∷ 22 ∷ 24 ∷ 26 ∷ 28 ∷ 0 ∷ 0 ∷ 0 ∷ 0 ∷ [])
       ∷ [];
   records =
       (3 ∷ 3 ∷ 9 ∷ [])
@@ -561,7 +567,7 @@ four-stages = record {
       ∷ [];
   limit = 18446744073709551615;
   rows =
-      (0 ∷ 1 ∷ 1 ∷ 1 ∷ 0 ∷ 0 ∷ 3 ∷ 0 ∷ 0 ∷ 0 ∷ 0 ∷ 0 ∷ 4 ∷ 4 ∷ 8 ∷ [])
+      (0 ∷ 1 ∷ 1 ∷ 1 ∷ 0 ∷ 0 ∷ 4 ∷ 0 ∷ 0 ∷ 0 ∷ 0 ∷ 0 ∷ 4 ∷ 4 ∷ 8 ∷ [])
       ∷ (1 ∷ 1 ∷ 2 ∷ 2 ∷ 0 ∷ 4 ∷ 2 ∷ 4 ∷ 8 ∷ 8 ∷ 13 ∷ 13 ∷ 13 ∷ 13 ∷ 17 ∷ [])
       ∷ (3 ∷ 0 ∷ 3 ∷ 3 ∷ 5 ∷ 0 ∷ 3 ∷ 8 ∷ 10 ∷ 13 ∷ 17 ∷ 17 ∷ 22 ∷ 22 ∷ 25 ∷ [])
       ∷ (4 ∷ 0 ∷ 3 ∷ 3 ∷ 0 ∷ 0 ∷ 2 ∷ 10 ∷ 10 ∷ 17 ∷ 23 ∷ 23 ∷ 24 ∷ 25 ∷ 28 ∷ [])
@@ -577,7 +583,7 @@ four-stages = record {
 
 unfoldable pub examples : List Example
 examples =
-    E1 ∷ E2 ∷ E3 ∷ E4 ∷ E5 ∷ E6 ∷ E7 ∷ E8 ∷ E9 ∷ E10 ∷ E10-none ∷ E11 ∷ zero-goes-on ∷ excess-of-the-round-before ∷ arrival-at-the-finish ∷ held-one-tick ∷ last-of-64 ∷ equal-later ∷ idle-again ∷ three-stages ∷ four-stages ∷ []
+    E1 ∷ E2 ∷ E3 ∷ E4 ∷ E5 ∷ E6 ∷ E7 ∷ E8 ∷ E9 ∷ E10 ∷ E10-none ∷ E11 ∷ zero-goes-on ∷ excess-of-the-round-before ∷ arrival-at-the-finish ∷ held-one-tick ∷ last-of-64 ∷ equal-times ∷ idle-again ∷ three-stages ∷ four-stages ∷ []
 
 -- any counts, with so many of the 24 words of E2's blocks
 unfoldable pub asked : ℕ → ℕ → ℕ → ℕ → Load

@@ -61,8 +61,8 @@ pub fn four_of_100() -> PlanLoad {
     load(4, 7, blocks)
 }
 
-/// Only where equal times belong to the later stage does this reach 798; by document 01 they belong
-/// to the earlier.
+/// Equal times decide here: where they belonged to the earlier stage, this would reach 599 and not
+/// 798.
 pub fn four_with_ties() -> PlanLoad {
     let blocks: &[(u32, u32, &[u32])] = &[
         (5, 1_139, &[100, 0, 0, 100]),

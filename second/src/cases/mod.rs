@@ -15,6 +15,7 @@ mod plan_limits;
 mod plan_shapes;
 mod plan_tables;
 mod plan_ticks;
+pub mod plan_ties;
 mod plan_unfair;
 mod standing;
 mod table;
@@ -113,5 +114,6 @@ pub fn all() -> Vec<Made> {
     plan_events::add(&mut cases);
     plan_shapes::add(&mut cases);
     plan_unfair::add(&mut cases);
+    plan_ties::add(&mut cases);
     cases.made
 }

@@ -52,13 +52,13 @@ fn blocks_once(load: &PlanLoad, rows: &[Row]) -> Outcome {
     Ok(())
 }
 
-/// The dominant stage has the largest time, and no stage before it has the same.
+/// The dominant stage has the largest time, and no stage after it has the same.
 fn dominant_stages(load: &PlanLoad, rows: &[Row]) -> Outcome {
     for row in rows {
         let times = &load.blocks[row.block as usize].times;
         let largest = times.iter().max();
-        let lowest = times.iter().position(|time| Some(time) == largest);
-        let stage = lowest.map(|place| place as u64 + 1);
+        let highest = times.iter().rposition(|time| Some(time) == largest);
+        let stage = highest.map(|place| place as u64 + 1);
         require(stage == Some(row.dominant_stage), "dominant stage", row)?;
     }
     Ok(())

@@ -37,12 +37,12 @@ impl Stages {
     }
 }
 
-/// The dominant stage, from 1: the one with the largest time, of several the lowest numbered.
-/// Stages that the load lacks have time 0 and never win, since some time is above 0.
+/// The dominant stage, from 1: the one with the largest time, of several the highest numbered
+/// (T-01). Stages that the load lacks have time 0 and never win, since some time is above 0.
 pub fn dominant_stage(block: &Block) -> u64 {
     let mut dominant = 0;
     for stage in 1..MOST_STAGES {
-        if block.times[stage] > block.times[dominant] {
+        if block.times[stage] >= block.times[dominant] {
             dominant = stage;
         }
     }

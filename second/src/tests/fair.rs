@@ -28,7 +28,7 @@ fn known_differences(checks: &mut Checks) {
     }
     for l in [3, 4, 11, 100, 12_345, LONGEST_TIME - 1] {
         let ratio = services::ratio_of(&unfair::three_stages(l));
-        let good = ratio.difference + 5 == 8 * u64::from(l);
+        let good = ratio.difference + 4 == 8 * u64::from(l);
         checks.check(good, &format!("three stages: {}", ratio.text()));
     }
 }
@@ -106,6 +106,6 @@ fn bound_fails(checks: &mut Checks) {
 fn text_is_exact(checks: &mut Checks) {
     let case = unfair::three_stages(LONGEST_TIME).ask(ALL).case();
     let text = fair::text([case].iter()).unwrap_or_default();
-    let line = "\nlargest ratio 8.00 (79999995 of 10000000)\n";
+    let line = "\nlargest ratio 8.00 (79999996 of 10000000)\n";
     checks.check(text.contains(line), &text);
 }

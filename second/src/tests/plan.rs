@@ -8,6 +8,7 @@ use crate::battery::plan_case::PlanCase;
 use crate::build::examples::{e1, e11, e2, e3, e4, e5, e6_or_e7, e8, e9};
 use crate::build::plan_load::{PlanLoad, ALL};
 use crate::cases::plan_events::EVENTS;
+use crate::cases::plan_ties::{kind_of, kinds};
 use crate::cases::Made;
 use crate::checks::turns::Turns;
 use crate::rules::row::{FlowRecord, ROW_WORDS};
@@ -30,6 +31,7 @@ pub fn run(checks: &mut Checks, made: &[Made], plans: &[PlanCase]) {
     tables(checks, plans);
     contents(checks, made, plans);
     events(checks, plans);
+    ties(checks, plans);
 }
 
 /// The cases of the plan call.
@@ -84,7 +86,7 @@ fn small_examples(checks: &mut Checks) {
     let tie = Expected {
         counts: [1, 1, 1, 0, 0, 6],
         records: &[[1, 1, 3]],
-        rows: &[[0, 0, 1, 1, 0, 0, 1, 0, 3, 3, 6]],
+        rows: &[[0, 0, 1, 1, 0, 0, 2, 0, 3, 3, 6]],
     };
     assert_plan(checks, "E9", &e9(), ALL, tie);
 }
@@ -195,7 +197,7 @@ fn example_of_a_return(checks: &mut Checks) {
         rows: &[
             [0, 1, 1, 1, 0, 0, 2, 0, 1, 1, 11],
             [1, 0, 1, 2, 0, 0, 2, 1, 2, 11, 21],
-            [2, 0, 2, 3, 0, 7, 1, 11, 12, 21, 22],
+            [2, 0, 2, 3, 0, 7, 2, 11, 12, 21, 22],
         ],
     };
     assert_plan(checks, "E11", &e11(), ALL, expected);
@@ -319,5 +321,22 @@ fn events(checks: &mut Checks, plans: &[PlanCase]) {
     }
     for (count, (name, _)) in happened.iter().zip(EVENTS) {
         checks.check(*count >= 60, &format!("{}: {} plans", name, count));
+    }
+}
+
+/// Every kind of block with its largest time at several stages is in many plans, and each of its
+/// rows has the last of these stages.
+fn ties(checks: &mut Checks, plans: &[PlanCase]) {
+    let accepted = |case: &&PlanCase| planned(case).result.is_ok();
+    let loads: Vec<PlanLoad> = plans.iter().filter(accepted).map(PlanLoad::of).collect();
+    for stages in 2..=4 {
+        for kind in kinds(stages) {
+            let has = |load: &&PlanLoad| {
+                let mut blocks = load.blocks.iter();
+                load.stages == stages && blocks.any(|block| kind_of(block, stages) == kind)
+            };
+            let count = loads.iter().filter(has).count();
+            checks.check(count >= 10, &format!("{:?}: {} plans", kind, count));
+        }
     }
 }

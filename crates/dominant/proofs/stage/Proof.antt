@@ -1,4 +1,4 @@
--- `dominant::stage` meets its contract: the stages are tried from the first on, so the first that has the dominant time is given.
+-- `dominant::stage` meets its contract: the stages are tried from the fourth down, so the last that has the dominant time is given.
 use borrow.Author.Needs.{needs}
 use Rattle.load.proofs.Cases.{by-tests}
 use Rattle.dominant.specs.Dominant.{dominantStage}
