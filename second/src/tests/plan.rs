@@ -324,8 +324,7 @@ fn events(checks: &mut Checks, plans: &[PlanCase]) {
     }
 }
 
-/// Every kind of block with its largest time at several stages is in many plans, and each of its
-/// rows has the last of these stages.
+/// Every kind of block that has its largest time at several stages is in many plans.
 fn ties(checks: &mut Checks, plans: &[PlanCase]) {
     let accepted = |case: &&PlanCase| planned(case).result.is_ok();
     let loads: Vec<PlanLoad> = plans.iter().filter(accepted).map(PlanLoad::of).collect();
