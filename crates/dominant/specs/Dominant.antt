@@ -1,5 +1,5 @@
 -- The dominant time of a block is its largest stage time; its dominant stage is the stage with that time; of several, the
--- highest numbered.
+-- highest numbered (T-01).
 use Prim.Native.Nat.{ℕ, max}
 use mathlib.Core.Bool.{cond}
 use lib.Dec.{eqb}

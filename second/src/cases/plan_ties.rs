@@ -95,11 +95,11 @@ fn beside_others(cases: &mut Cases, kind: &Kind) {
 /// Random kinds and times, in loads of two to four flows; the rows of every second load are printed
 /// whole.
 fn mixed(cases: &mut Cases, random: &mut Random, kinds: &[Kind]) {
-    for place in 0..50 {
+    for place in 0..40 {
         let flows = random.between(2, 4);
         let mut load = PlanLoad::new(kinds[0].len(), flows);
         let mut arrival = 0;
-        for _ in 0..[4, 4 + place / 3][place % 2] {
+        for _ in 0..[4, 4 + place / 6][place % 2] {
             let kind = &kinds[random.below(kinds.len())];
             let less = random.between(1, 6) as u32;
             let largest = less + random.between(1, 3) as u32;
