@@ -1,4 +1,3 @@
 pub mod Heads
-pub mod Moving
 pub mod Places
 pub mod Unique

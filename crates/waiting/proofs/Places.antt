@@ -1,95 +1,130 @@
--- Laws of the entries in their storage: two words an entry, the head first, and behind the places how many there are. Only the
--- proofs of this crate's functions use them.
-use Prim.Native.Nat.{ℕ, zero, suc, _+_, _-_, _*_, _≤_, _<_}
-use mathlib.Core.Bool.{_||_}
+-- Laws of the entries in their storage: two words an entry, from the head's place on and round. Only the proofs of this crate's
+-- functions use them.
+use Prim.Native.Nat.{ℕ, zero, suc, _+_, _-_, _*_, _/_, _≤_, _<_}
+use mathlib.Core.Bool.{false, _||_}
 use mathlib.Core.List.{List, [], _∷_, _++_}
 use mathlib.Core.Path.{_≡_, refl, ap, sym, _∙_}
-use native.Mathlib.Nat.{add-comm, add-zero}
+use native.Mathlib.Nat.{add-zero, sub-zero}
 use native.Mathlib.Numerals.{add-one, sub-one}
 use native.Mathlib.Omega.{arith}
-use lib.Dec.{eqb}
-use lib.ListN.{length, getD, set, drop, length-set}
-use lib.Seq.{drop-drop, getD-drop, getD-set-same, getD-set-other}
+use borrow.Author.Tests.{ltb-false, ltb-true}
+use lib.Dec.{eqb, ltb}
+use lib.ListN.{length, getD, set, length-set}
+use lib.Seq.{getD-set-same, getD-set-other}
+use Rattle.load.proofs.Cases.{cases}
 use Rattle.rules.specs.declared.entry.Entry.{Entry}
 use Rattle.rules.specs.Waiting.{listed}
 use Rattle.waiting.specs.declared.Head.the-variants.{Flow}
-use Rattle.waiting.specs.Entries.{count, entries, first, headOf, most, restOf}
-use Rattle.waiting.proofs.Moving.{Moved}
+use Rattle.waiting.specs.Entries.{count, entries, entryAt, from, headOf, headPlace, most, restOf, round, size}
 
-length-first : (n : ℕ) (s : List ℕ) → length (first n s) ≡ n
-unfolding first
-length-first zero s = refl
-length-first (suc n) s = ap suc (length-first n (drop 2 s))
+length-from : (k n : ℕ) (s : List ℕ) → length (from k n s) ≡ k
+unfolding from
+length-from zero n s = refl
+length-from (suc k) n s = ap suc (length-from k (n + 1) s)
 
 pub length-entries : (s : List ℕ) → length (entries s) ≡ count s
 unfolding entries
-length-entries s = length-first (count s) s
+length-entries s = length-from (count s) (headPlace s) s
 
--- as many as are counted are all
-pub first-all : (n : ℕ) (s : List ℕ) → n ≡ length (entries s) → first n s ≡ entries s
+-- one and the others, from the next place on
+from-one : (k n : ℕ) (s : List ℕ) → 0 < k → from k n s ≡ entryAt (round n) s ∷ from (k - 1) (n + 1) s
+unfolding from
+from-one zero n s h = absurd (omega arith)
+from-one (suc k) n s h = rw sub-one
+
+-- Of k entries from n on the first i are seen. At first the others are all there are; one of them is at hand, and the rest follow it; at
+-- the end there is none.
+pub listed-all : (f k n : ℕ) (s : List ℕ) → k ≡ length (entries s) → n ≡ headPlace s → listed f (from (k - 0) (n + 0) s) ≡ listed f (entries s)
 unfolding entries
-first-all n s all = ap (λ (k : ℕ). first k s) (all ∙ length-entries s)
+listed-all f k n s all head = rw (sub-zero, add-zero, head, all, length-entries s)
 
--- no entry, or one and the others after its two words
-pub first-none : (n : ℕ) (s : List ℕ) → n ≤ 0 → first n s ≡ []
-unfolding first
-first-none zero s h = refl
-first-none (suc n) s h = absurd (omega arith)
+pub listed-step : (f k n i : ℕ) (s : List ℕ) → i < k
+    → listed f (from (k - i) (n + i) s) ≡ eqb (getD s (2 * round (n + i)) 0) f || listed f (from (k - (i + 1)) (n + (i + 1)) s)
+unfolding listed
+listed-step f k n i s h =
+    let fewer : k - i - 1 ≡ k - (i + 1) = omega arith in
+    let next : n + i + 1 ≡ n + (i + 1) = omega arith in
+    rw (from-one (k - i) (n + i) s (omega arith), fewer, next)
 
-first-one : (n : ℕ) (s : List ℕ) → 0 < n → first n s ≡ record { flow = getD s 0 0; excess = getD s 1 0 } ∷ first (n - 1) (drop 2 s)
-unfolding first
-first-one zero s h = absurd (omega arith)
-first-one (suc n) s h = rw sub-one
+pub listed-none : (f k n i : ℕ) (s : List ℕ) → k ≤ i → listed f (from (k - i) n s) ≡ false
+unfolding from listed
+listed-none f k n i s h =
+    let none : k - i ≡ 0 = omega arith in
+    rw none
 
-pub entries-head : (s : List ℕ) → 0 < length (entries s) → headOf (entries s) ≡ Flow (record { flow = getD s 0 0; excess = getD s 1 0 })
-unfolding entries headOf
-entries-head s h = rw (first-one (count s) s (rw length-first at h))
+-- the i-th place after the next one
+shift : (n i : ℕ) → n + 1 + i ≡ n + suc i
+shift n i = omega arith
 
--- n entries lie in the first 2 n words
-first-same : (n : ℕ) (s t : List ℕ) → ((k : ℕ) → k < 2 * n → getD s k 0 ≡ getD t k 0) → first n s ≡ first n t
-unfolding first
-first-same zero s t same = refl
-first-same (suc n) s t same =
-    let rest : (k : ℕ) → k < 2 * n → getD (drop 2 s) k 0 ≡ getD (drop 2 t) k 0 = λ k h. simp getD-drop (same (2 + k) (omega arith)) in
-    rw (same 0 (omega arith), same 1 (omega arith), first-same n (drop 2 s) (drop 2 t) rest)
+-- Equal entries at each place make equal lists, wherever these begin.
+from-same : (k n m : ℕ) (s t : List ℕ) → ((i : ℕ) → i < k → entryAt (round (n + i)) s ≡ entryAt (round (m + i)) t) → from k n s ≡ from k m t
+unfolding from
+from-same zero n m s t same = refl
+from-same (suc k) n m s t same =
+    let here : entryAt (round n) s ≡ entryAt (round m) t = simp add-zero at (same 0 (omega arith)) in
+    rw (here, from-same k (n + 1) (m + 1) s t (λ i h. rw (shift n, shift m) (same (suc i) (omega arith))))
 
 -- one entry more at the tail
-last : (n : ℕ) (s : List ℕ) → first (suc n) s ≡ first n s ++ (record { flow = getD s (2 * n) 0; excess = getD s (2 * n + 1) 0 } ∷ [])
-unfolding first
-last zero s = refl
-last (suc n) s =
-    let flow : 2 + 2 * n ≡ 2 * suc n = omega arith in
-    let excess : 2 + (2 * n + 1) ≡ 2 * suc n + 1 = omega arith in
-    ap (λ (es : List Entry). record { flow = getD s 0 0; excess = getD s 1 0 } ∷ es) (last n (drop 2 s)) ∙ simp (getD-drop, flow, excess)
+last : (k n : ℕ) (s : List ℕ) → from (suc k) n s ≡ from k n s ++ (entryAt (round (n + k)) s ∷ [])
+unfolding from
+last zero n s = rw add-zero
+last (suc k) n s = ap (λ (es : List Entry). entryAt (round n) s ∷ es) (rw (last k (n + 1) s, shift))
 
--- an entry stored after the last joins at the tail, once it is counted
-pub entries-join : (n : ℕ) (s : List ℕ) (e : Entry) → n ≡ length (entries s) → n < most → 2 * most < length s
-    → entries (set (set (set s (2 * n) (e .flow)) (2 * n + 1) (e .excess)) (2 * most) (n + 1)) ≡ entries s ++ (e ∷ [])
+-- the entry at the head's place
+pub entries-head : (p : ℕ) (s : List ℕ) → p ≡ headPlace s → 0 < length (entries s) → headOf (entries s) ≡ Flow (entryAt p s)
+unfolding entries headOf
+entries-head p s head h =
+    let once : round (headPlace s) ≡ p = omega arith in
+    rw (from-one (count s) (headPlace s) s (rw length-from at h), once)
+
+-- The places of the entries are all different, and so is that of one more.
+apart : (n i k : ℕ) → i < k → k < most → round (n + i) ≡ round (n + k) → ⊥
+apart n i k less few same =
+    let a = (n + i) / most in
+    let b = (n + k) / most in
+    cases (ltb a b) (λ h. omega (arith, ltb-true a b h)) (λ h. omega (arith, ltb-false a b h))
+
+-- a count stored: so many are counted, and the words before it stay
+count-set : (n : ℕ) (s : List ℕ) → size ≤ length s → count (set s (2 * most + 1) n) ≡ n
+count-set n s long = getD-set-same s (2 * most + 1) n 0 (omega arith)
+
+count-other : (n k : ℕ) (s : List ℕ) → k ≤ 2 * most → getD (set s (2 * most + 1) n) k 0 ≡ getD s k 0
+count-other n k s h = getD-set-other s (2 * most + 1) k n 0 (λ q. omega arith)
+
+-- an entry stored behind the last joins at the tail, once it is counted
+pub entries-join : (n p : ℕ) (s : List ℕ) (e : Entry) → n ≡ length (entries s) → p ≡ headPlace s → n < most → size ≤ length s
+    → let at = 2 * round (p + n) in entries (set (set (set s at (e .flow)) (at + 1) (e .excess)) (2 * most + 1) (n + 1)) ≡ entries s ++ (e ∷ [])
 unfolding entries
-entries-join n s e all few long =
-    let u = set s (2 * n) (e .flow) in
-    let t = set u (2 * n + 1) (e .excess) in
-    let r = set t (2 * most) (n + 1) in
-    let counted : count r ≡ suc n = getD-set-same t (2 * most) (n + 1) 0 (simp length-set (omega arith)) ∙ add-one n in
-    let under : (k : ℕ) → k < 2 * most → getD r k 0 ≡ getD t k 0 = λ k l. getD-set-other t (2 * most) k (n + 1) 0 (λ q. omega arith) in
-    let apart : (k : ℕ) → k < 2 * n + 1 → getD r k 0 ≡ getD u k 0 = λ k l. under k (omega arith) ∙ getD-set-other u (2 * n + 1) k (e .excess) 0 (λ q. omega arith) in
-    let kept : (k : ℕ) → k < 2 * n → getD r k 0 ≡ getD s k 0 = λ k l. apart k (omega arith) ∙ getD-set-other s (2 * n) k (e .flow) 0 (λ q. omega arith) in
-    let flow : getD r (2 * n) 0 ≡ e .flow = apart (2 * n) (omega arith) ∙ getD-set-same s (2 * n) (e .flow) 0 (omega arith) in
-    let excess : getD r (2 * n + 1) 0 ≡ e .excess = under (2 * n + 1) (omega arith) ∙ getD-set-same u (2 * n + 1) (e .excess) 0 (simp length-set (omega arith)) in
-    rw (counted, last n r, first-same n r s kept, flow, excess, ← (all ∙ length-entries s))
+entries-join n p s e all head few long =
+    let at = 2 * round (p + n) in
+    let u = set s at (e .flow) in
+    let t = set u (at + 1) (e .excess) in
+    let r = set t (2 * most + 1) (n + 1) in
+    let kept : (k : ℕ) → k ≤ 2 * most → (k ≡ at → ⊥) → (k ≡ at + 1 → ⊥) → getD r k 0 ≡ getD s k 0 = λ k l a b.
+    count-other (n + 1) k t l ∙ getD-set-other u (at + 1) k (e .excess) 0 b ∙ getD-set-other s at k (e .flow) 0 a in
+    let flow : getD r at 0 ≡ e .flow =
+    count-other (n + 1) at t (omega arith) ∙ getD-set-other u (at + 1) at (e .excess) 0 (λ q. omega arith) ∙ getD-set-same s at (e .flow) 0 (omega arith) in
+    let excess : getD r (at + 1) 0 ≡ e .excess = count-other (n + 1) (at + 1) t (omega arith) ∙ getD-set-same u (at + 1) (e .excess) 0 (simp length-set (omega arith)) in
+    let counted : count r ≡ suc n = count-set (n + 1) t (simp length-set long) ∙ add-one n in
+    let stays : headPlace r ≡ p = ap round (kept (2 * most) (omega arith) (λ q. omega arith) (λ q. omega arith)) ∙ sym head in
+    let others : (i : ℕ) → i < n → entryAt (round (p + i)) r ≡ entryAt (round (p + i)) s = λ i h.
+    let q = 2 * round (p + i) in
+    let differ : q ≡ at → ⊥ = λ e. apart p i n h few (omega arith) in
+    rw (kept q (omega arith) differ (λ e. omega arith), kept (q + 1) (omega arith) (λ e. omega arith) (λ e. differ (omega arith))) in
+    rw (counted, stays, last n p r, from-same n p p r s others, flow, excess, ← head, ← (all ∙ length-entries s))
 
--- moved two words down and counted as one fewer, the entries are the rest
-pub entries-rest : (n at : ℕ) (s t : List ℕ) → n + 1 ≡ length (entries s) → n < most → 2 * most < length s → Moved s t at → 2 * n ≤ at
-    → entries (set t (2 * most) n) ≡ restOf (entries s)
-unfolding entries first restOf
-entries-rest n at s t all few long moved end =
-    let before : count s ≡ suc n = sym (all ∙ length-entries s) ∙ add-one n in
-    let counted : count (set t (2 * most) n) ≡ n = getD-set-same t (2 * most) n 0 (rw (moved .long) long) in
-    let same : (k : ℕ) → k < 2 * n → getD (set t (2 * most) n) k 0 ≡ getD (drop 2 s) k 0 = λ k l.
-    getD-set-other t (2 * most) k n 0 (λ q. omega arith) ∙ moved .below k (omega arith) ∙ rw (getD-drop, add-comm 2 k) in
-    rw (counted, before) (first-same n (set t (2 * most) n) (drop 2 s) same)
-
--- a flow is the entry's at hand, or listed after it
-pub listed-step : (f n at : ℕ) (s : List ℕ) → 0 < n → listed f (first n (drop at s)) ≡ eqb (getD s at 0) f || listed f (first (n - 1) (drop (at + 2) s))
-unfolding listed
-listed-step f n at s h = rw (first-one n (drop at s) h, getD-drop, add-zero, drop-drop)
+-- with the head's place moved on and one entry fewer counted, the entries are the rest
+pub entries-rest : (n p : ℕ) (s : List ℕ) → n ≡ length (entries s) → p ≡ headPlace s → 0 < n → size ≤ length s
+    → entries (set (set s (2 * most) (p + 1)) (2 * most + 1) (n - 1)) ≡ restOf (entries s)
+unfolding entries restOf
+entries-rest n p s all head some long =
+    let t = set s (2 * most) (p + 1) in
+    let r = set t (2 * most + 1) (n - 1) in
+    let kept : (k : ℕ) → k < 2 * most → getD r k 0 ≡ getD s k 0 = λ k l. count-other (n - 1) k t (omega arith) ∙ getD-set-other s (2 * most) k (p + 1) 0 (λ q. omega arith) in
+    let counted : count r ≡ n - 1 = count-set (n - 1) t (simp length-set long) in
+    let moves : headPlace r ≡ round (p + 1) = ap round (count-other (n - 1) (2 * most) t (omega arith) ∙ getD-set-same s (2 * most) (p + 1) 0 (omega arith)) in
+    let others : (i : ℕ) → i < n - 1 → entryAt (round (round (p + 1) + i)) r ≡ entryAt (round (p + 1 + i)) s = λ i h.
+    let same : round (round (p + 1) + i) ≡ round (p + 1 + i) = omega arith in
+    let q = 2 * round (p + 1 + i) in
+    rw (same, kept q (omega arith), kept (q + 1) (omega arith)) in
+    rw (counted, moves, from-same (n - 1) (round (p + 1)) (p + 1) r s others, ← head, ← (all ∙ length-entries s), from-one n p s some)

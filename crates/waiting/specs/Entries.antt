@@ -1,7 +1,7 @@
 -- The list of waiting flows as its storage stands for it, the room that it has, and what taking its head answers and leaves.
-use Prim.Native.Nat.{ℕ, zero, suc, _*_, _≤_, _<_}
+use Prim.Native.Nat.{ℕ, zero, suc, _+_, _*_, _%_, _≤_, _<_}
 use mathlib.Core.List.{List, [], _∷_}
-use lib.ListN.{length, getD, drop}
+use lib.ListN.{length, getD}
 use Rattle.rules.specs.declared.entry.Entry.{Entry}
 use Rattle.waiting.specs.declared.Head.{Head}
 use Rattle.waiting.specs.declared.Head.the-variants.{Flow, Empty}
@@ -12,7 +12,7 @@ most = 64
 
 -- how many words of storage that takes, for proofs of callers that have it among their locals
 abbrev pub size : ℕ
-size = 129
+size = 130
 
 -- no more entries than that, and room for one more
 abbrev pub Fits : List Entry → Type 0
@@ -21,18 +21,29 @@ Fits es = length es ≤ most
 abbrev pub Room : List Entry → Type 0
 Room es = length es < most
 
--- Two words an entry, flow and excess, the head first.
-unfoldable pub first : ℕ → List ℕ → List Entry
-first zero s = []
-first (suc n) s = record { flow = getD s 0 0; excess = getD s 1 0 } ∷ first n (drop 2 s)
+-- The places of the entries go round: after the last comes place 0.
+abbrev pub round : ℕ → ℕ
+round n = n % most
 
--- Behind the places of the entries stands how many there are.
+-- Two words an entry, flow and excess.
+abbrev pub entryAt : ℕ → List ℕ → Entry
+entryAt place s = record { flow = getD s (2 * place) 0; excess = getD s (2 * place + 1) 0 }
+
+-- So many entries, from a place on.
+unfoldable pub from : ℕ → ℕ → List ℕ → List Entry
+from zero n s = []
+from (suc k) n s = entryAt (round n) s ∷ from k (n + 1) s
+
+-- Behind the places stand the head's place and how many entries there are.
+abbrev pub headPlace : List ℕ → ℕ
+headPlace s = round (getD s (2 * most) 0)
+
 abbrev pub count : List ℕ → ℕ
-count s = getD s (2 * most) 0
+count s = getD s (2 * most + 1) 0
 
 -- THE LIST. Only the proofs of this crate unfold it.
 unfoldable pub entries : List ℕ → List Entry
-entries s = first (count s) s
+entries s = from (count s) (headPlace s) s
 
 -- the head of the list, as taking it answers, and what stays
 unfoldable pub headOf : List Entry → Head

@@ -5,7 +5,7 @@ ghost use mathlib.Core.List.{[], _∷_, _++_};
 ghost use Prim.Native.Nat.{_<_};
 ghost use lib.ListN.{length};
 ghost use Rattle.rules.specs.Waiting.{listed};
-ghost use Rattle.waiting.specs.Entries.{entries, Fits, headOf, restOf, Room};
+ghost use Rattle.waiting.specs.Entries.{entries, Fits, headOf, headPlace, restOf, Room};
 use rules::entry::Entry;
 
 pub enum Head {
@@ -13,15 +13,21 @@ pub enum Head {
     Empty,
 }
 
-// Two words an entry, flow and excess, for 64 entries, the head first. Behind them stands how many there are.
-pub type Storage = [u64; 129];
+// 64 places of two words, flow and excess. The entries lie one behind the other from the head's place on, and after place 63
+// comes place 0, so none ever moves. Behind the places stand the head's place and how many entries there are: two ends alone
+// would not tell 64 entries from none.
+pub type Storage = [u64; 130];
 
-const COUNT: usize = 128;
+const PLACES: usize = 64;
+
+const HEAD: usize = 128;
+
+const COUNT: usize = 129;
 
 pub fn empty() -> Storage
     ensures { λ r. ⌜ entries r ≡ [] ⌝ }
 {
-    [0; 129]
+    [0; 130]
 }
 
 // How many flows wait.
@@ -31,64 +37,63 @@ pub fn length(list: &Storage) -> usize
     list[COUNT] as usize
 }
 
+// The head's place. It is brought round here, where it is read, so whatever stands there leads to a place.
+fn head_place(list: &Storage) -> usize
+    ensures { λ r. ⌜ r ≡ headPlace (now (list .entry)) ⌝ }
+{
+    list[HEAD] as usize % PLACES
+}
+
 // Whether a flow is listed.
 pub fn has(list: &Storage, flow: usize) -> bool
     requires { ⌜ Fits (entries (now list)) ⌝ }
     ensures { λ r. ⌜ r ≡ listed flow (entries (now (list .entry))) ⌝ }
 {
-    let mut at = 0;
-    let mut left = length(list);
-    while 0 < left {
-        if list[at] as usize == flow {
+    let count = length(list);
+    let head = head_place(list);
+    let mut seen = 0;
+    while seen < count {
+        let place = (head + seen) % PLACES;
+        if list[2 * place] as usize == flow {
             return true;
         }
-        at += 2;
-        left -= 1;
+        seen += 1;
     }
     false
 }
 
-// An entry joins at the tail.
+// An entry joins at the tail, which moves on by one.
 pub fn join(list: &mut Storage, entry: Entry)
     requires { ⌜ Room (entries (now list)) ⌝ }
     ensures { λ _. ⌜ entries (now (list .exit)) ≡ entries (now (list .entry)) ++ (entry ∷ []) ⌝ }
 {
     let count = length(list);
+    let tail = (head_place(list) + count) % PLACES;
     let words = &mut list[..];
-    let at = 2 * count;
+    let at = 2 * tail;
     words[at] = entry.flow as u64;
     words[at + 1] = entry.excess;
     words[COUNT] = (count + 1) as u64;
 }
 
-// The head leaves: the entries behind it move one place forward.
-fn move_down(list: &mut Storage)
-    requires { ⌜ (0 < length (entries (now list))) × Fits (entries (now list)) ⌝ }
-    ensures { λ _. ⌜ entries (now (list .exit)) ≡ restOf (entries (now (list .entry))) ⌝ }
-{
-    let left = length(list) - 1;
-    let words = &mut list[..];
-    let end = 2 * left;
-    let mut to = 0;
-    while to < end {
-        words[to] = words[to + 2];
-        to += 1;
-    }
-    words[COUNT] = left as u64;
-}
-
-// The head, which leaves the list.
+// The head, which leaves the list: the place behind it is the head's then.
 pub fn take(list: &mut Storage) -> Head
     requires { ⌜ Fits (entries (now list)) ⌝ }
     ensures { λ r. ⌜ (r ≡ headOf (entries (now (list .entry)))) × (entries (now (list .exit)) ≡ restOf (entries (now (list .entry)))) ⌝ }
 {
-    if length(list) == 0 {
+    let count = length(list);
+    if count == 0 {
         return Head::Empty;
     }
-    let head = Entry {
-        flow: list[0] as usize,
-        excess: list[1],
+    let head = head_place(list);
+    let next = head + 1;
+    let at = 2 * head;
+    let entry = Entry {
+        flow: list[at] as usize,
+        excess: list[at + 1],
     };
-    move_down(list);
-    Head::Flow(head)
+    let words = &mut list[..];
+    words[HEAD] = next as u64;
+    words[COUNT] = (count - 1) as u64;
+    Head::Flow(entry)
 }
