@@ -12,6 +12,7 @@ pub mod plan_events;
 mod plan_examples;
 mod plan_faults;
 mod plan_limits;
+pub mod plan_lists;
 mod plan_shapes;
 mod plan_tables;
 mod plan_ticks;
@@ -115,5 +116,6 @@ pub fn all() -> Vec<Made> {
     plan_shapes::add(&mut cases);
     plan_unfair::add(&mut cases);
     plan_ties::add(&mut cases);
+    plan_lists::add(&mut cases);
     cases.made
 }

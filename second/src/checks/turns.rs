@@ -1,6 +1,8 @@
 //! A whole plan as its rows show it, turn by turn. The checks of plans and the search for loads
 //! look at it; nothing of it comes from the planner.
 
+use std::collections::HashSet;
+
 use crate::build::plan_load::PlanLoad;
 use crate::rules::row::Row;
 
@@ -108,6 +110,14 @@ impl<'a> Turns<'a> {
     pub fn waits(&self, to_come: &[Row], flow: u64, tick: u64) -> bool {
         let mut own = to_come.iter().filter(|row| row.flow == flow);
         own.any(|row| self.arrival(row) <= tick)
+    }
+
+    /// How many flows wait at the ready tick of a turn, its own too.
+    pub fn waiting(&self, turn: &Turn) -> usize {
+        let to_come = turn.rows.iter().chain(turn.later);
+        let arrived = to_come.filter(|row| self.arrival(row) <= turn.ready);
+        let flows: HashSet<u64> = arrived.map(|row| row.flow).collect();
+        flows.len()
     }
 
     /// The turn of the same flow before this one.

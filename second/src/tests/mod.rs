@@ -251,7 +251,7 @@ fn case_file(checks: &mut Checks, made: &[Made]) {
     checks.check(last, "the plan cases come last");
     let sizes = (case::encode(others).len(), case::encode(plans).len());
     checks.check(sizes.0 <= 900_000, "size of the other cases");
-    checks.check(sizes.1 <= 1_700_000, "size of the plan cases");
+    checks.check(sizes.1 <= 1_800_000, "size of the plan cases");
     let back = case::decode(&bytes).unwrap_or_default();
     let same = back.len() == all.len() && back.iter().zip(&all).all(|(a, &b)| a == b);
     checks.check(same, "the case file read back");

@@ -8,9 +8,10 @@ use crate::battery::plan_case::PlanCase;
 use crate::build::examples::{e1, e11, e2, e3, e4, e5, e6_or_e7, e8, e9};
 use crate::build::plan_load::{PlanLoad, ALL};
 use crate::cases::plan_events::EVENTS;
+use crate::cases::plan_lists::RETURNS;
 use crate::cases::plan_ties::{kind_of, kinds};
 use crate::cases::Made;
-use crate::checks::turns::Turns;
+use crate::checks::turns::{Turn, Turns};
 use crate::rules::row::{FlowRecord, ROW_WORDS};
 use crate::tests::Checks;
 
@@ -32,6 +33,7 @@ pub fn run(checks: &mut Checks, made: &[Made], plans: &[PlanCase]) {
     contents(checks, made, plans);
     events(checks, plans);
     ties(checks, plans);
+    lists(checks, plans);
 }
 
 /// The cases of the plan call.
@@ -338,4 +340,48 @@ fn ties(checks: &mut Checks, plans: &[PlanCase]) {
             checks.check(count >= 10, &format!("{:?}: {} plans", kind, count));
         }
     }
+}
+
+/// In some plans 64 flows wait at most of the ready ticks, in some 63, in some these by turns; and
+/// in some a flow leaves the list and joins it a hundred times, alone or while others wait.
+fn lists(checks: &mut Checks, plans: &[PlanCase]) {
+    let whole = |case: &&PlanCase| case.asked.limit >= case.asked.blocks;
+    let mut found = [0; 5];
+    for case in plans.iter().filter(whole) {
+        if case.asked.blocks <= RETURNS as u64 || planned(case).result.is_err() {
+            continue;
+        }
+        let load = PlanLoad::of(case);
+        let rows = load.rows();
+        let turns = Turns::of(&load, &rows);
+        let waiting: Vec<usize> = turns.all.iter().map(|turn| turns.waiting(turn)).collect();
+        let share = |flows: usize| {
+            let ticks = waiting.iter().filter(|&&waiting| waiting == flows);
+            ticks.count() as f64 / waiting.len() as f64
+        };
+        let returns = returns(&turns) >= RETURNS;
+        let now = [
+            share(64) > 0.7,
+            share(63) > 0.7,
+            share(64) > 0.3 && share(63) > 0.3,
+            returns && share(1) == 1.0,
+            returns && share(1) < 1.0,
+        ];
+        for (count, now) in found.iter_mut().zip(now) {
+            *count += usize::from(now);
+        }
+    }
+    for (count, least) in found.into_iter().zip([5, 1, 1, 2, 2]) {
+        checks.check(count >= least, &format!("long lists: {:?} plans", found));
+    }
+}
+
+/// How often the flow that does so most leaves the list and joins it again.
+fn returns(turns: &Turns) -> usize {
+    let returns = |turn: &Turn| turns.previous(turn).map_or(false, |before| !before.stays);
+    let of_flow = |flow: usize| {
+        let own = turns.all.iter().filter(|turn| turn.flow() == flow as u64);
+        own.filter(|turn| returns(turn)).count()
+    };
+    (0..turns.load.flows).map(of_flow).max().unwrap_or(0)
 }
