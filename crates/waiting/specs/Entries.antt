@@ -21,22 +21,22 @@ Fits es = length es ≤ most
 abbrev pub Room : List Entry → Type 0
 Room es = length es < most
 
--- The places of the entries go round: after the last comes place 0.
-abbrev pub round : ℕ → ℕ
-round n = n % most
+-- The places go round: after the last of them comes place 0.
+abbrev pub placeOf : ℕ → ℕ
+placeOf n = n % most
 
--- Two words an entry, flow and excess.
+-- The entry at a place: two words, flow and excess.
 abbrev pub entryAt : ℕ → List ℕ → Entry
 entryAt place s = record { flow = getD s (2 * place) 0; excess = getD s (2 * place + 1) 0 }
 
--- So many entries, from a place on.
+-- So many entries one behind the other, the first at the place of n.
 unfoldable pub from : ℕ → ℕ → List ℕ → List Entry
 from zero n s = []
-from (suc k) n s = entryAt (round n) s ∷ from k (n + 1) s
+from (suc k) n s = entryAt (placeOf n) s ∷ from k (n + 1) s
 
 -- Behind the places stand the head's place and how many entries there are.
 abbrev pub headPlace : List ℕ → ℕ
-headPlace s = round (getD s (2 * most) 0)
+headPlace s = placeOf (getD s (2 * most) 0)
 
 abbrev pub count : List ℕ → ℕ
 count s = getD s (2 * most + 1) 0

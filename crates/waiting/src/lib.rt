@@ -37,7 +37,7 @@ pub fn length(list: &Storage) -> usize
     list[COUNT] as usize
 }
 
-// The head's place. It is brought round here, where it is read, so whatever stands there leads to a place.
+// The head's place. It is brought round here, where it is read: 64 stands for place 0, and no word leads out of the places.
 fn head_place(list: &Storage) -> usize
     ensures { λ r. ⌜ r ≡ headPlace (now (list .entry)) ⌝ }
 {
