@@ -69,20 +69,14 @@ fn several_held(turns: &Turns) -> bool {
     turns.all.iter().any(held_with)
 }
 
-/// Whether the flow had a turn before and then left the list.
-fn returns(turns: &Turns, turn: &Turn) -> bool {
-    let previous = turns.previous(turn);
-    previous.map_or(false, |previous| !previous.stays)
-}
-
 fn returns_held(turns: &Turns) -> bool {
     let mut all = turns.all.iter();
-    all.any(|turn| returns(turns, turn) && turn.hold() > 0)
+    all.any(|turn| turns.returns(turn) && turn.hold() > 0)
 }
 
 fn returns_free(turns: &Turns) -> bool {
     let mut all = turns.all.iter();
-    all.any(|turn| returns(turns, turn) && turn.hold() == 0)
+    all.any(|turn| turns.returns(turn) && turn.hold() == 0)
 }
 
 fn held_late(turns: &Turns) -> bool {
@@ -107,7 +101,7 @@ fn ends_at_0(turns: &Turns) -> bool {
 fn joins_within_a_round(turns: &Turns) -> bool {
     let joins = |turn: &Turn| {
         let came = turns.arrival(turn.first());
-        let newcomer = turn.previous.is_none() || returns(turns, turn);
+        let newcomer = turn.previous.is_none() || turns.returns(turn);
         let mut before = turns.of_round(turn.round() - 1);
         let opened = before.next().map_or(u64::MAX, |first| first.ready);
         newcomer && opened < came && before.any(|other| came < other.ready)

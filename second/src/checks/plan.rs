@@ -153,10 +153,7 @@ fn round_lengths(turns: &Turns) -> Outcome {
         let flows: Vec<u64> = turns.of_round(round).map(|turn| turn.flow()).collect();
         let opening = turns.of_round(round).next();
         let opening = opening.ok_or_else(|| format!("round {} has no turn", round))?;
-        let to_come = [opening.rows, opening.later].concat();
-        let waiting: HashSet<u64> = (0..turns.load.flows as u64)
-            .filter(|&flow| turns.waits(&to_come, flow, opening.ready))
-            .collect();
+        let waiting = turns.waiting(opening);
         let same = flows.len() == waiting.len() && waiting == flows.into_iter().collect();
         require(same, "flows of a round", opening.first())?;
     }

@@ -112,17 +112,22 @@ impl<'a> Turns<'a> {
         own.any(|row| self.arrival(row) <= tick)
     }
 
-    /// How many flows wait at the ready tick of a turn, its own too.
-    pub fn waiting(&self, turn: &Turn) -> usize {
+    /// The flows that wait at the ready tick of a turn, its own too.
+    pub fn waiting(&self, turn: &Turn) -> HashSet<u64> {
         let to_come = turn.rows.iter().chain(turn.later);
         let arrived = to_come.filter(|row| self.arrival(row) <= turn.ready);
-        let flows: HashSet<u64> = arrived.map(|row| row.flow).collect();
-        flows.len()
+        arrived.map(|row| row.flow).collect()
     }
 
     /// The turn of the same flow before this one.
     pub fn previous(&self, turn: &Turn) -> Option<&Turn<'a>> {
         turn.previous.map(|place| &self.all[place])
+    }
+
+    /// Whether the flow had a turn before and then left the list.
+    pub fn returns(&self, turn: &Turn) -> bool {
+        let previous = self.previous(turn);
+        previous.map_or(false, |previous| !previous.stays)
     }
 
     pub fn of_round(&self, round: u64) -> impl Iterator<Item = &Turn<'a>> + '_ {

@@ -1,6 +1,8 @@
 //! The self-tests of the plan call: document 01's examples as direct assertions, the form of
 //! lines and cases, the lent tables, and what the plan cases have to contain.
 
+use std::ops::Range;
+
 use crate::battery::answer::{self, planned, records_before, rows_before, MOST_WORDS_SHOWN};
 use crate::battery::case::{self, Call, Case};
 use crate::battery::count::Tally;
@@ -11,7 +13,7 @@ use crate::cases::plan_events::EVENTS;
 use crate::cases::plan_lists::RETURNS;
 use crate::cases::plan_ties::{kind_of, kinds};
 use crate::cases::Made;
-use crate::checks::turns::{Turn, Turns};
+use crate::checks::turns::Turns;
 use crate::rules::row::{FlowRecord, ROW_WORDS};
 use crate::tests::Checks;
 
@@ -305,22 +307,26 @@ fn contents(checks: &mut Checks, made: &[Made], plans: &[PlanCase]) {
     checks.check(full >= 25, "full loads");
 }
 
+/// Looks at the plans that list all blocks of a load, where these are so many.
+fn look_at(plans: &[PlanCase], blocks: Range<u64>, mut look: impl FnMut(&Turns)) {
+    let whole = |case: &&PlanCase| case.asked.limit >= case.asked.blocks;
+    for case in plans.iter().filter(whole) {
+        if blocks.contains(&case.asked.blocks) && planned(case).result.is_ok() {
+            let load = PlanLoad::of(case);
+            look(&Turns::of(&load, &load.rows()));
+        }
+    }
+}
+
 /// Each event that loads were sought for happens in many plans. Long ones aren't looked at, since
 /// that would take too long.
 fn events(checks: &mut Checks, plans: &[PlanCase]) {
     let mut happened = [0; EVENTS.len()];
-    let whole = |case: &&PlanCase| case.asked.limit >= case.asked.blocks;
-    for case in plans.iter().filter(whole) {
-        if case.asked.blocks > 60 || planned(case).result.is_err() {
-            continue;
-        }
-        let load = PlanLoad::of(case);
-        let rows = load.rows();
-        let turns = Turns::of(&load, &rows);
+    look_at(plans, 0..61, |turns| {
         for (count, (_, event)) in happened.iter_mut().zip(EVENTS) {
-            *count += usize::from(event(&turns));
+            *count += usize::from(event(turns));
         }
-    }
+    });
     for (count, (name, _)) in happened.iter().zip(EVENTS) {
         checks.check(*count >= 60, &format!("{}: {} plans", name, count));
     }
@@ -345,21 +351,15 @@ fn ties(checks: &mut Checks, plans: &[PlanCase]) {
 /// In some plans 64 flows wait at most of the ready ticks, in some 63, in some these by turns; and
 /// in some a flow leaves the list and joins it a hundred times, alone or while others wait.
 fn lists(checks: &mut Checks, plans: &[PlanCase]) {
-    let whole = |case: &&PlanCase| case.asked.limit >= case.asked.blocks;
     let mut found = [0; 5];
-    for case in plans.iter().filter(whole) {
-        if case.asked.blocks <= RETURNS as u64 || planned(case).result.is_err() {
-            continue;
-        }
-        let load = PlanLoad::of(case);
-        let rows = load.rows();
-        let turns = Turns::of(&load, &rows);
-        let waiting: Vec<usize> = turns.all.iter().map(|turn| turns.waiting(turn)).collect();
+    look_at(plans, RETURNS as u64..u64::MAX, |turns| {
+        let waiting = turns.all.iter().map(|turn| turns.waiting(turn).len());
+        let waiting: Vec<usize> = waiting.collect();
         let share = |flows: usize| {
             let ticks = waiting.iter().filter(|&&waiting| waiting == flows);
             ticks.count() as f64 / waiting.len() as f64
         };
-        let returns = returns(&turns) >= RETURNS;
+        let returns = most_returns(turns) >= RETURNS;
         let now = [
             share(64) > 0.7,
             share(63) > 0.7,
@@ -370,18 +370,17 @@ fn lists(checks: &mut Checks, plans: &[PlanCase]) {
         for (count, now) in found.iter_mut().zip(now) {
             *count += usize::from(now);
         }
-    }
+    });
     for (count, least) in found.into_iter().zip([5, 1, 1, 2, 2]) {
         checks.check(count >= least, &format!("long lists: {:?} plans", found));
     }
 }
 
 /// How often the flow that does so most leaves the list and joins it again.
-fn returns(turns: &Turns) -> usize {
-    let returns = |turn: &Turn| turns.previous(turn).map_or(false, |before| !before.stays);
+fn most_returns(turns: &Turns) -> usize {
     let of_flow = |flow: usize| {
         let own = turns.all.iter().filter(|turn| turn.flow() == flow as u64);
-        own.filter(|turn| returns(turn)).count()
+        own.filter(|turn| turns.returns(turn)).count()
     };
     (0..turns.load.flows).map(of_flow).max().unwrap_or(0)
 }
