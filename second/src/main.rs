@@ -9,7 +9,6 @@
 //!   fair            checks what the plans of the cases promise
 //!   files FOLDER    writes the files for the printing program into a folder
 //!   listing         what has to be printed for a file, which it reads
-//!   bench           how long it takes to plan a full load
 //!
 //! The folders, of which each uses those above it:
 //!
@@ -22,7 +21,6 @@
 //!   tests      the self-tests
 
 mod battery;
-mod bench;
 mod build;
 mod cases;
 mod checks;
@@ -38,8 +36,7 @@ use battery::{answer, count};
 use checks::fair;
 use rules::listing;
 
-const USE: &str =
-    "use: second cases | answers | count | test | fair | files FOLDER | listing | bench";
+const USE: &str = "use: second cases | answers | count | test | fair | files FOLDER | listing";
 
 fn main() {
     let command = std::env::args().nth(1).unwrap_or_default();
@@ -51,7 +48,6 @@ fn main() {
         "fair" => check_fairness(),
         "files" => write_files(),
         "listing" => write_listing(),
-        "bench" => write_out(bench::text().as_bytes()),
         _ => Err(USE.to_string()),
     };
     if let Err(message) = done {
