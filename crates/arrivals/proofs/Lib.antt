@@ -1,4 +1,3 @@
 pub mod Arriving
-pub mod Seeking
 pub mod Standing
 pub mod Unique

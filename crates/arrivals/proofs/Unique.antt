@@ -10,7 +10,6 @@ use Rattle.arrivals.specs.declared.state.Core.{Core}
 use Rattle.arrivals.specs.declared.state.Planner.{Planner}
 use Rattle.arrivals.proofs.arrival.Reads as arrival
 use Rattle.arrivals.proofs.up_to.Reads as up-to
-use Rattle.arrivals.proofs.queue.oldest.Reads as oldest
 
 -- the code's numbers, from the state that they stand for
 abbrev pub ofCore : plan.Core → Core
@@ -21,9 +20,6 @@ ofState s = record { mode = s .mode; core = ofCore (s .core) }
 
 pub arrival-once : OneAnswer arrival.Post
 arrival-once κs a r r′ s s′ p q = p ∙ sym q
-
-pub oldest-once : OneAnswer oldest.Post
-oldest-once κs a r r′ s s′ p q = p ∙ sym q
 
 pub up-to-once : OneAnswer up-to.Post
 up-to-once κs a r r′ s s′ p q = ap ofCore (p [] [] ∙ sym (q [] []))

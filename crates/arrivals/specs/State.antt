@@ -5,11 +5,12 @@ use mathlib.Core.Path.{_≡_}
 use Rattle.rules.specs.declared.mode.Mode.{Mode}
 use Rattle.rules.specs.Load.{Load}
 use Rattle.rules.specs.Plan as plan
+use Rattle.queues.specs.Queues.{Follows}
 use Rattle.waiting.specs.Entries.{entries}
 use Rattle.arrivals.specs.declared.state.Core.{Core}
 use Rattle.arrivals.specs.declared.state.Planner.{Planner}
 
--- the code's numbers, with the list and the words of `from` and `gate` that are lent beside them
+-- The code's numbers, with the list and the words of `gate` that are lent beside them. The code has no `from`: its queues follow it.
 abbrev pub lineOf : ℕ → List ℕ → plan.Line
 lineOf next list = record { next = next; wait = entries list }
 
@@ -35,9 +36,10 @@ CoreBecomes rule c list c′ list′ = (from gate : List ℕ) → coreOf c′ li
 abbrev pub Becomes : (plan.Core → plan.State) → Core → List ℕ → Planner → List ℕ → Type 0
 Becomes rule c list p list′ = (from gate : List ℕ) → stateOf p list′ from gate ≡ rule (coreOf c list from gate)
 
--- the same where `from` is read
-abbrev pub BecomesFrom : List ℕ → (plan.Core → plan.State) → Core → List ℕ → Planner → List ℕ → Type 0
-BecomesFrom from rule c list p list′ = (gate : List ℕ) → stateOf p list′ from gate ≡ rule (coreOf c list from gate)
+-- the same where the queues are read, for each `from` that they follow
+abbrev pub BecomesBy : Load → List ℕ → (plan.Core → plan.State) → Core → List ℕ → Planner → List ℕ → Type 0
+BecomesBy L queues rule c list p list′ =
+    (from gate : List ℕ) → Follows L from queues → stateOf p list′ from gate ≡ rule (coreOf c list from gate)
 
 -- how a planner is settled, as a rule of its core
 abbrev pub settledIn : Load → Mode → plan.Core → plan.State

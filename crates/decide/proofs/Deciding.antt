@@ -11,15 +11,21 @@ use Rattle.rules.specs.declared.mode.Mode.the-variants.{Idle, InTurn}
 use Rattle.rules.specs.declared.mode.Turn.{Turn}
 use Rattle.rules.specs.Load.{Load, blockAt}
 use Rattle.rules.specs.Plan.{Core, Started, oldest, readied, rejoined, state, taken, tested, upTo, waits, where-waits, woken}
+use Rattle.queues.specs.Queues.{Follows, most, oldestIn}
+use Rattle.queues.proofs.Finding.{found, none-found}
 
-module _ (L : Load) (c : Core) (f o : ℕ) (found : o ≡ oldest L c f) where
+-- o is a flow's oldest block, as queues tell it that follow the core's places: it waits if it is below `next`
+module _ (L : Load) (c : Core) (queues : List ℕ) (follows : Follows L (c .from) queues) (within : c .line .next ≤ L .counts .blocks) (f : ℕ) (below : f < most) (o : ℕ) (is : o ≡ oldestIn queues f) where
+  pub the-oldest : o < c .line .next → o ≡ oldest L c f
+  the-oldest h = is ∙ found L c queues follows within f below (rw (← is) h)
+
   waits-not : c .line .next ≤ o → waits L c f ≡ false
   unfolding waits
-  waits-not h = rw (← found) (le-ltb o (c .line .next) h)
+  waits-not h = le-ltb (oldest L c f) (c .line .next) (none-found L c queues follows within f below (rw (← is) h))
 
-  waits-for : o < c .line .next → waits L c f ≡ true
+  pub waits-for : o < c .line .next → waits L c f ≡ true
   unfolding waits
-  waits-for h = rw (← found) (lt-ltb o (c .line .next) h)
+  waits-for h = rw (← (the-oldest h)) (lt-ltb o (c .line .next) h)
 
   -- a start needs a block that waits
   pub starts-not : (s : Started) → c .line .next ≤ o → where-waits L c f s ≡ none
@@ -30,19 +36,19 @@ module _ (L : Load) (c : Core) (f o : ℕ) (found : o ≡ oldest L c f) where
   unfolding where-waits
   starts s h = rw (waits-for h)
 
--- a turn is tested: o is the flow's oldest block that waits, if it is below `next`
-module _ (L : Load) (t : Turn) (c : Core) (o : ℕ) (found : o ≡ oldest L c (t .flow)) where
+-- a turn is tested
+module _ (L : Load) (t : Turn) (c : Core) (queues : List ℕ) (follows : Follows L (c .from) queues) (within : c .line .next ≤ L .counts .blocks) (below : t .flow < most) (o : ℕ) (is : o ≡ oldestIn queues (t .flow)) where
   pub tested-leaves : c .line .next ≤ o → tested L (InTurn t) c ≡ state Idle c
   unfolding tested
-  tested-leaves h = rw (waits-not L c (t .flow) o found h)
+  tested-leaves h = rw (waits-not L c queues follows within (t .flow) below o is h)
 
   pub tested-goes-on : o < c .line .next → t .spent ≤ t .allowance → tested L (InTurn t) c ≡ state (InTurn t) c
   unfolding tested
-  tested-goes-on h b = rw (waits-for L c (t .flow) o found h, le-leb (t .spent) (t .allowance) b)
+  tested-goes-on h b = rw (waits-for L c queues follows within (t .flow) below o is h, le-leb (t .spent) (t .allowance) b)
 
   pub tested-rejoins : o < c .line .next → t .allowance < t .spent → tested L (InTurn t) c ≡ state Idle (rejoined c (t .flow) (t .spent - t .allowance))
   unfolding tested
-  tested-rejoins h b = rw (waits-for L c (t .flow) o found h, lt-leb (t .spent) (t .allowance) b)
+  tested-rejoins h b = rw (waits-for L c queues follows within (t .flow) below o is h, lt-leb (t .spent) (t .allowance) b)
 
 pub taken-none : (c : Core) (w : List Entry) → w ≡ [] → taken c w ≡ state Idle c
 unfolding taken

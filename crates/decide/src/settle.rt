@@ -1,18 +1,18 @@
 // What is decided when stage 1 is free: whether the turn goes on, and else who is taken next.
 ghost use mathlib.Core.List.{List, [], _∷_};
 ghost use Prim.Native.Nat.{ℕ, _<_};
-ghost use Rattle.rules.specs.declared.mode.Mode.the-variants.{InTurn};
+ghost use Rattle.rules.specs.declared.mode.Mode.the-variants.{Idle, InTurn};
 ghost use Rattle.rules.specs.Load.{loadOf};
 ghost use Rattle.rules.specs.Plan.{onward as Plan·onward, readied, rejoined, taken, tested as Plan·tested, woken};
 ghost use Rattle.rules.specs.Within.{Accepted, Away};
 ghost use Rattle.waiting.specs.Entries.{entries, Fits, Room};
 ghost use Rattle.arrivals.specs.Room.{Stands};
-ghost use Rattle.arrivals.specs.State.{Becomes, BecomesFrom, CoreBecomes, settledIn};
+ghost use Rattle.arrivals.specs.State.{Becomes, BecomesBy, CoreBecomes, settledIn};
 ghost use Rattle.decide.specs.Room.{Settles, Takes};
-use arrivals::queue;
 use arrivals::state::Core;
 use arrivals::state::Planner;
 use load::counts::Counts;
+use queues::Storage as Queues;
 use rules::entry::Entry;
 use rules::mode::HeldFlow;
 use rules::mode::Mode;
@@ -45,17 +45,17 @@ fn test_turn(
     turn: Turn,
     core: Core,
     list: &mut Storage,
-    from: &[usize; 64],
+    queues: &Queues,
 ) -> Planner
     requires { ⌜ Accepted (loadOf counts (now blocks)) ⌝ }
-    requires { ⌜ Stands (loadOf counts (now blocks)) (core .next) (entries (now list)) ⌝ }
+    requires { ⌜ Stands (loadOf counts (now blocks)) (InTurn turn) (now queues) (core .next) (entries (now list)) ⌝ }
     requires { ⌜ Away (counts .flows) (InTurn turn) (entries (now list)) ⌝ }
-    ensures { λ r. ⌜ BecomesFrom (now (from .entry)) (Plan·tested (loadOf counts (now (blocks .entry))) (InTurn turn))
+    ensures { λ r. ⌜ BecomesBy (loadOf counts (now (blocks .entry))) (now (queues .entry)) (Plan·tested (loadOf counts (now (blocks .entry))) (InTurn turn))
         core (now (list .entry)) r (now (list .exit)) ⌝ }
 {
     let flow = turn.flow;
     let next = core.next;
-    if next <= queue::oldest(blocks, flow, from[flow], next) {
+    if next <= queues::oldest(queues, flow) {
         return Planner {
             mode: Mode::Idle,
             core,
@@ -104,9 +104,9 @@ fn call(core: Core, entry: Entry, list: &Storage) -> Planner
 }
 
 // The list is empty, so the planner goes on to the next arrival, if one is to come: only the clock moves.
-fn wake(counts: Counts, blocks: &[u32], core: Core, list: &mut Storage) -> Core
+fn wake(counts: Counts, blocks: &[u32], core: Core, list: &mut Storage, queues: &Queues) -> Core
     requires { ⌜ Accepted (loadOf counts (now blocks)) ⌝ }
-    requires { ⌜ Stands (loadOf counts (now blocks)) (core .next) (entries (now list)) ⌝ }
+    requires { ⌜ Stands (loadOf counts (now blocks)) Idle (now queues) (core .next) (entries (now list)) ⌝ }
     ensures { λ r. ⌜ CoreBecomes (λ c. woken (loadOf counts (now (blocks .entry))) c []) core (now (list .entry)) r (now (list .exit)) ⌝ }
 {
     let next = core.next;
@@ -114,7 +114,7 @@ fn wake(counts: Counts, blocks: &[u32], core: Core, list: &mut Storage) -> Core
         return core;
     }
     let tick = arrivals::arrival(blocks, next);
-    arrivals::up_to(counts, blocks, Mode::Idle, tick, core, list)
+    arrivals::up_to(counts, blocks, Mode::Idle, tick, core, list, queues)
 }
 
 // The head of the list is taken, and the planner is idle where there is none.
@@ -132,13 +132,13 @@ fn take_head(core: Core, list: &mut Storage) -> Planner
 }
 
 // The ready tick: the head of the list is taken; where the list is empty, the planner goes on to the next arrival instead.
-fn ready(counts: Counts, blocks: &[u32], core: Core, list: &mut Storage) -> Planner
+fn ready(counts: Counts, blocks: &[u32], core: Core, list: &mut Storage, queues: &Queues) -> Planner
     requires { ⌜ Accepted (loadOf counts (now blocks)) ⌝ }
-    requires { ⌜ Takes (loadOf counts (now blocks)) core (entries (now list)) ⌝ }
+    requires { ⌜ Takes (loadOf counts (now blocks)) Idle (now queues) core (entries (now list)) ⌝ }
     ensures { λ r. ⌜ Becomes (readied (loadOf counts (now (blocks .entry)))) core (now (list .entry)) r (now (list .exit)) ⌝ }
 {
     let Head::Flow(entry) = waiting::take(list) else {
-        let woken = wake(counts, blocks, core, list);
+        let woken = wake(counts, blocks, core, list, queues);
         return take_head(woken, list);
     };
     call(core, entry, list)
@@ -150,11 +150,11 @@ fn tested(
     blocks: &[u32],
     planner: Planner,
     list: &mut Storage,
-    from: &[usize; 64],
+    queues: &Queues,
 ) -> Planner
     requires { ⌜ Accepted (loadOf counts (now blocks)) ⌝ }
-    requires { ⌜ Settles (loadOf counts (now blocks)) planner (entries (now list)) ⌝ }
-    ensures { λ r. ⌜ BecomesFrom (now (from .entry)) (Plan·tested (loadOf counts (now (blocks .entry))) (planner .mode))
+    requires { ⌜ Settles (loadOf counts (now blocks)) (now queues) planner (entries (now list)) ⌝ }
+    ensures { λ r. ⌜ BecomesBy (loadOf counts (now (blocks .entry))) (now (queues .entry)) (Plan·tested (loadOf counts (now (blocks .entry))) (planner .mode))
         (planner .core) (now (list .entry)) r (now (list .exit)) ⌝ }
 {
     let mode = planner.mode;
@@ -162,20 +162,26 @@ fn tested(
     match mode {
         Mode::Idle => planner,
         Mode::Holds(_) => planner,
-        Mode::InTurn(turn) => test_turn(counts, blocks, turn, core, list, from),
+        Mode::InTurn(turn) => test_turn(counts, blocks, turn, core, list, queues),
     }
 }
 
 // An idle planner takes the next flow; any other goes on.
-fn onward(counts: Counts, blocks: &[u32], planner: Planner, list: &mut Storage) -> Planner
+fn onward(
+    counts: Counts,
+    blocks: &[u32],
+    planner: Planner,
+    list: &mut Storage,
+    queues: &Queues,
+) -> Planner
     requires { ⌜ Accepted (loadOf counts (now blocks)) ⌝ }
-    requires { ⌜ Takes (loadOf counts (now blocks)) (planner .core) (entries (now list)) ⌝ }
+    requires { ⌜ Takes (loadOf counts (now blocks)) (planner .mode) (now queues) (planner .core) (entries (now list)) ⌝ }
     ensures { λ r. ⌜ Becomes (Plan·onward (loadOf counts (now (blocks .entry))) (planner .mode)) (planner .core) (now (list .entry)) r (now (list .exit)) ⌝ }
 {
     let mode = planner.mode;
     let core = planner.core;
     match mode {
-        Mode::Idle => ready(counts, blocks, core, list),
+        Mode::Idle => ready(counts, blocks, core, list, queues),
         Mode::Holds(_) => planner,
         Mode::InTurn(_) => planner,
     }
@@ -188,13 +194,13 @@ pub fn settle(
     blocks: &[u32],
     planner: Planner,
     list: &mut Storage,
-    from: &[usize; 64],
+    queues: &Queues,
 ) -> Planner
     requires { ⌜ Accepted (loadOf counts (now blocks)) ⌝ }
-    requires { ⌜ Settles (loadOf counts (now blocks)) planner (entries (now list)) ⌝ }
-    ensures { λ r. ⌜ BecomesFrom (now (from .entry)) (settledIn (loadOf counts (now (blocks .entry))) (planner .mode))
+    requires { ⌜ Settles (loadOf counts (now blocks)) (now queues) planner (entries (now list)) ⌝ }
+    ensures { λ r. ⌜ BecomesBy (loadOf counts (now (blocks .entry))) (now (queues .entry)) (settledIn (loadOf counts (now (blocks .entry))) (planner .mode))
         (planner .core) (now (list .entry)) r (now (list .exit)) ⌝ }
 {
-    let then = tested(counts, blocks, planner, list, from);
-    onward(counts, blocks, then, list)
+    let then = tested(counts, blocks, planner, list, queues);
+    onward(counts, blocks, then, list, queues)
 }

@@ -1,38 +1,37 @@
 // The dominant time and stage of a block.
+ghost use mathlib.Core.Bool.{cond};
 ghost use mathlib.Core.Path.{_≡_};
 ghost use Prim.Native.Nat.{max};
+ghost use lib.Dec.{leb};
 ghost use Rattle.dominant.specs.Dominant.{dominantTime, dominantStage};
 use load::block::Block;
 
-fn larger(a: u32, b: u32) -> u32
-    ensures { λ r. ⌜ r ≡ max a b ⌝ }
-{
-    if a < b { b } else { a }
+// A time, and the stage that has it.
+pub struct Peak {
+    pub time: u32,
+    pub stage: u32,
 }
 
-// The largest stage time.
-pub fn time(block: Block) -> u32
-    ensures { λ r. ⌜ r ≡ dominantTime block ⌝ }
+// The greater of a peak and a later stage's time; of equals the later stage's.
+fn higher(peak: Peak, time: u32, stage: u32) -> Peak
+    ensures { λ r. ⌜ (r .time ≡ max (peak .time) time) × (r .stage ≡ cond (leb (peak .time) time) stage (peak .stage)) ⌝ }
 {
-    larger(
-        larger(larger(block.time1, block.time2), block.time3),
-        block.time4,
-    )
+    if peak.time <= time {
+        Peak { time, stage }
+    } else {
+        peak
+    }
 }
 
-// The stage with the largest time; of several, the highest numbered.
-pub fn stage(block: Block) -> u32
-    ensures { λ r. ⌜ r ≡ dominantStage block ⌝ }
+// The largest stage time, and the highest numbered stage that has it. Both come of one pass over the times.
+pub fn highest(block: Block) -> Peak
+    ensures { λ r. ⌜ (r .time ≡ dominantTime block) × (r .stage ≡ dominantStage block) ⌝ }
 {
-    let most = time(block);
-    if block.time4 == most {
-        return 4;
-    }
-    if block.time3 == most {
-        return 3;
-    }
-    if block.time2 == most {
-        return 2;
-    }
-    1
+    let first = Peak {
+        time: block.time1,
+        stage: 1,
+    };
+    let second = higher(first, block.time2, 2);
+    let third = higher(second, block.time3, 3);
+    higher(third, block.time4, 4)
 }

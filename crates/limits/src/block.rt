@@ -1,19 +1,25 @@
 // The tests of a block.
 ghost use mathlib.Core.Path.{_≡_};
+ghost use Prim.Native.Nat.{ℕ};
+ghost use lib.Dec.{ltb};
 ghost use Rattle.limits.specs.Tests.{allZero, blockVerdict, overLimit, timeOver};
 use load::block::Block;
 use load::counts::Counts;
 use load::refusal::Refusal;
 use load::refusal::Verdict;
 
+// The most that a time at a stage may be: its limit, or 0 where the load lacks the stage.
+fn most(stages: usize, stage: usize) -> u32
+    ensures { λ r. ⌜ ((time : ℕ) → ltb r time ≡ timeOver stages stage time) ⌝ }
+{
+    if stages < stage { 0 } else { 10_000_000 }
+}
+
 // Whether a time at a stage is above its limit, or above 0 where the load lacks the stage.
 fn time_over(stages: usize, stage: usize, time: u32) -> bool
     ensures { λ r. ⌜ r ≡ timeOver stages stage time ⌝ }
 {
-    if stages < stage {
-        return 0 < time;
-    }
-    10_000_000 < time
+    most(stages, stage) < time
 }
 
 fn over_limit(stages: usize, block: Block) -> bool

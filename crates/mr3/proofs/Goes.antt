@@ -1,7 +1,7 @@
 -- The loop of the plan call: what holds when so much is to be noted yet (`Goes`), that it holds before the first start, that each
 -- thing noted keeps it, and that at the end it is what the call promises. It says what the rest of the plan will make of the
 -- tables and the counts; of a refused call there is no rest.
-use Prim.Native.Nat.{ℕ, zero, suc, _+_, _-_, _*_, _≤_, _<_, min}
+use Prim.Native.Nat.{ℕ, zero, suc, _+_, _-_, _*_, _/_, _≤_, _<_, min}
 use mathlib.Core.Bool.{true≢false}
 use mathlib.Core.List.{List, [], _∷_, _++_, append-assoc, append-nil}
 use mathlib.Core.Path.{_≡_, refl, sym, ap, _∙_}
@@ -15,26 +15,35 @@ use Rattle.load.specs.declared.refusal.Refusal.{Refusal}
 use Rattle.load.specs.declared.refusal.Verdict.{Verdict}
 use Rattle.load.specs.declared.refusal.Verdict.the-variants as verdict
 use Rattle.dominant.specs.Dominant.{dominantTime}
-use Rattle.load.proofs.Cases.{cases}
+use Rattle.load.proofs.Cases.{by-test, cases}
 use Rattle.load.proofs.Parts.{drop-over, length-over, over, take-over}
+use Rattle.rules.specs.declared.answer.Summary.{Summary}
 use Rattle.rules.specs.declared.record.FlowRecord.{FlowRecord}
 use Rattle.rules.specs.declared.row.Row.{Row}
+use Rattle.rules.specs.declared.stages.Span.{Span}
 use Rattle.rules.specs.Calls.{answerOf, flowsAfter, Plans, planVerdict, rowsAfter}
 use Rattle.rules.specs.Counts as counts
 use Rattle.rules.specs.Counts.{added, counted, recorded, records, summary, unlisted}
 use Rattle.rules.specs.Load.{blockAt, Load, loadOf}
-use Rattle.rules.specs.Plan.{origin, plan, run, State}
+use Rattle.rules.specs.Plan.{none-yet, origin, plan, run, State, state, upTo}
 use Rattle.rules.specs.Rows.{rowsWords, rowWords, wayWords}
+use Rattle.rules.specs.Stages.{lastRun, runAt}
+use Rattle.rules.specs.Within.{at-origin}
 use Rattle.rules.proofs.Accepting.{accepted}
 use Rattle.rules.proofs.Blocks.{dominant-within}
-use Rattle.rules.proofs.Bounds.{origin-within}
 use Rattle.rules.proofs.Sums.{one-most}
-use Rattle.rules.proofs.Whole.{plan-length}
 use Rattle.progress.specs.declared.run.Going.{Going}
 use Rattle.progress.specs.declared.run.Running.{Running}
 use Rattle.progress.specs.Changes.{adds, changed, empties, Fits, noted}
-use Rattle.progress.specs.Going.{answered, Begins, Does, Empties, Moves, reached, Ready, Starts, taken}
-use Rattle.progress.proofs.Running.{bounds, next-row, row-room, runs-on, to-start}
+use Rattle.arrivals.specs.State.{stateOf}
+use Rattle.progress.specs.Going.{answered, Begins, Does, Empties, Moves, Ready, Shows, Starts, summaryOf, taken}
+use Rattle.progress.proofs.Running.{next-row, row-room, row-within, runs-on, to-start}
+
+-- where no block has started, no stage has a run
+no-end : (stages : ℕ) → lastRun stages (record { one = none-yet; two = none-yet; three = none-yet; four = none-yet }) .finish ≡ 0
+unfolding lastRun runAt none-yet
+no-end stages =
+    by-test (λ (x : Span). x .finish ≡ 0) (eqb stages 1) (λ _. refl) (λ _. by-test (λ (x : Span). x .finish ≡ 0) (eqb stages 2) (λ _. refl) (λ _. by-test (λ (x : Span). x .finish ≡ 0) (eqb stages 3) (λ _. refl) (λ _. refl)))
 
 -- ---- the records still to be emptied, the first j
 abbrev emptied : ℕ → List FlowRecord → List FlowRecord
@@ -124,22 +133,32 @@ module _ (c : Counts) (n : ℕ) (table : List ℕ) (fs₀ : List FlowRecord) (ws
     pub long-rows : length ws ≡ length ws₀
     ends :
         let rest = run L (g .running .left) s in
-        Plans c n table fs₀ ws₀ (answered said (summary (c .stages) (g .running .summary) rest)) (records table (g .running .summary .turns) (emptied (g .empties) fs) rest) (written (g .running .at) ws rest)
+        Plans c n table fs₀ ws₀ (answered said (summary (c .stages) (summaryOf (c .stages) (g .running)) rest)) (records table (g .running .planner .core .turns) (emptied (g .empties) fs) rest) (written (g .running .at) ws rest)
     live : 0 < m → Live g s fs ws
 
   -- ---- before the first start
-  module _ (g : Going) (list : List ℕ) (b : Begins c n table (length fs₀) (length ws₀) g list) where
+  module _ (g : Going) (list queues : List ℕ) (b : Begins c n table (length fs₀) (length ws₀) g list queues) where
     abbrev s₀ : State
-    s₀ = reached g list (replicate 64 0) (replicate 64 0)
+    s₀ = stateOf (g .running .planner) list (replicate 64 0) (replicate 64 0)
 
     abbrev m₀ : ℕ
     m₀ = g .empties + g .running .left
 
     -- what is left to show
-    begun : Plans c n table fs₀ ws₀ (answered said (summary (c .stages) (g .running .summary) (run L (g .running .left) s₀)))
-        (records table (g .running .summary .turns) (emptied (g .empties) fs₀) (run L (g .running .left) s₀)) (written (g .running .at) ws₀ (run L (g .running .left) s₀))
+    begun : Plans c n table fs₀ ws₀ (answered said (summary (c .stages) (summaryOf (c .stages) (g .running)) (run L (g .running .left) s₀)))
+        (records table (g .running .planner .core .turns) (emptied (g .empties) fs₀) (run L (g .running .left) s₀)) (written (g .running .at) ws₀ (run L (g .running .left) s₀))
         → (0 < m₀ → Live g s₀ fs₀ ws₀) → Goes m₀ g s₀ fs₀ ws₀
     begun ends live = record { many = refl; go = b .go; verdict-is = b .verdict; long-flows = refl; long-rows = refl; ends = ends; live = live }
+
+    -- nothing is counted
+    none-counted : s₀ ≡ origin L → summaryOf (c .stages) (g .running) ≡ counts.none
+    unfolding origin state upTo counts.none
+    none-counted at =
+        let blocks : g .running .at / 15 ≡ 0 = omega (arith, b .at) in
+        let turns : g .running .planner .core .turns ≡ 0 = ap (λ (x : State). x .core .turns) at in
+        let rounds : g .running .planner .core .round .number ≡ 0 = ap (λ (x : State). x .core .round .number) at in
+        let end : lastRun (c .stages) (g .running .planner .core .way) .finish ≡ 0 = ap (λ (x : State). lastRun (c .stages) (x .core .way) .finish) at ∙ no-end (c .stages) in
+        rw (blocks, turns, rounds, b .held, b .ticks, end) refl
 
     first-refused : (r : Refusal) → said ≡ verdict.Refused r → Goes m₀ g s₀ fs₀ ws₀
     unfolding taken flowsAfter rowsAfter answerOf answered records run
@@ -153,30 +172,31 @@ module _ (c : Counts) (n : ℕ) (table : List ℕ) (fs₀ : List FlowRecord) (ws
         (λ h. absurd (omega (arith, no-flow, no-start)))
 
     first-accepted : said ≡ verdict.Accepted → Goes m₀ g s₀ fs₀ ws₀
-    unfolding taken flowsAfter rowsAfter answerOf answered plan counts.none
+    unfolding taken flowsAfter rowsAfter answerOf answered plan counts.none origin state
     first-accepted e =
         let is : g .verdict ≡ verdict.Accepted = b .verdict ∙ e in
         let flows : g .empties ≡ c .flows = b .empties ∙ ap (λ (v : Verdict). taken c v .flows) is in
         let left : g .running .left ≡ min n (c .blocks) = b .left ∙ ap (λ (v : Verdict). min n (taken c v .blocks)) is in
         let state : s₀ ≡ origin L = b .state ∙ ap (λ (v : Verdict). origin (loadOf (taken c v) table)) is in
+        let none = none-counted state in
+        let turns : g .running .planner .core .turns ≡ 0 = ap (λ (x : Summary). x .turns) none in
         let ok = accepted c n table (length fs₀) (length ws₀) e in
         begun
-        (rw (flows, left, state, b .summary, b .at) (record { answers = rw e refl; flows-left = rw e refl; rows-left = rw e refl }))
+        (rw (flows, left, state, none, turns, b .at) (record { answers = rw e refl; flows-left = rw e refl; rows-left = rw e refl }))
         (λ h. record {
           ready = record {
             accepted = ok .0;
             to-note = h;
             flows = omega (arith, flows, ok .0 .flows);
+            unbegun = λ _. ap (λ (x : State). x .mode) state;
             runs = record {
               starts = 0;
-              few = omega (arith, left, ok .0 .blocks);
-              within = rw state (origin-within L (ok .0));
-              to-come = rw (left, state) (plan-length c n table (length fs₀) (length ws₀) e);
+              reached = rw state at-origin;
+              few = omega (arith, left);
               at = omega (arith, b .at);
               room = omega (arith, b .at, left, ok .2);
-              few-blocks = rw (b .summary) (omega arith);
-              few-held = rw (b .summary) (omega arith);
-              few-ticks = rw (b .summary) (omega arith);
+              few-held = omega (arith, b .held);
+              few-ticks = omega (arith, b .ticks);
             };
           };
           records-left = omega (arith, flows);
@@ -190,6 +210,17 @@ module _ (c : Counts) (n : ℕ) (table : List ℕ) (fs₀ : List FlowRecord) (ws
       go (verdict.Refused r) e = first-refused r e
       go verdict.Accepted e = first-accepted e
 
+    -- after a refusal nothing is to be noted, so the planner need not stand for a state
+    pub shows-first : 0 < m₀ → Shows L g list queues (replicate 64 0) s₀
+    unfolding taken
+    shows-first some = go (g .verdict) refl where
+      go : (v : Verdict) → g .verdict ≡ v → Shows L g list queues (replicate 64 0) s₀
+      go (verdict.Refused r) e =
+          let no-flow : g .empties ≡ 0 = b .empties ∙ ap (λ (x : Verdict). taken c x .flows) e in
+          let no-block : taken c (g .verdict) .blocks ≡ 0 = ap (λ (x : Verdict). taken c x .blocks) e in
+          absurd (omega (arith, some, no-flow, b .left, no-block))
+      go verdict.Accepted e = record { is = refl; follows = rw e at (b .follows) }
+
   -- ---- something is noted
   module _ (i : ℕ) (g : Going) (s : State) (fs : List FlowRecord) (ws : List ℕ) (p : Goes (suc i) g s fs ws) where
     abbrev lives : Live g s fs ws
@@ -201,11 +232,16 @@ module _ (c : Counts) (n : ℕ) (table : List ℕ) (fs₀ : List FlowRecord) (ws
     pub goes-ready : Ready L g s (length ws)
     goes-ready = ready
 
-    module _ (g′ : Going) (s′ : State) (ws′ : List ℕ) (mv : Moves L g s ws g′ s′ ws′) where
-      abbrev On : Type 0
-      On = (g′ .change .flow < length fs) × Fits (getD fs (g′ .change .flow) unlisted) (g′ .change) × Goes i g′ s′ (noted fs (g′ .change)) ws′
+    module _ (g′ : Going) (shown : State → Type 0) (ws′ : List ℕ) (mv : Moves L g s ws g′ shown ws′) where
+      -- the record is there, and all goes on at a state that is shown
+      pub record On : Type 0 where
+        pub here : g′ .change .flow < length fs
+        pub fits : Fits (getD fs (g′ .change .flow) unlisted) (g′ .change)
+        pub then : State
+        pub shows : shown then
+        pub goes : Goes i g′ then (noted fs (g′ .change)) ws′
 
-      on-emptied : (e : ℕ) → g .empties ≡ suc e → Empties L g s ws g′ s′ ws′ e → On
+      on-emptied : (e : ℕ) → g .empties ≡ suc e → Empties L g s ws g′ shown ws′ e → On
       unfolding empties changed
       on-emptied e at m =
           let here : e < length fs = omega (arith, lives .records-left, lives .records-there, p .long-flows, at) in
@@ -213,76 +249,83 @@ module _ (c : Counts) (n : ℕ) (table : List ℕ) (fs₀ : List FlowRecord) (ws
           let many : i ≡ g′ .empties + g′ .running .left = omega (arith, p .many, at, m .empties, left) in
           let ends = rw at at (p .ends) in
           let room = rw at at (lives .records-room) in
-          rw (m .change) (
-            here,
-            (λ e. absurd (true≢false e)),
-            record {
+          record {
+            here = rw (m .change) here;
+            fits = rw (m .change) (λ e. absurd (true≢false e));
+            then = s;
+            shows = m .state;
+            goes = rw (m .change) (record {
               many = many;
               go = mv .go ∙ ap (ltb 0) (sym many);
               verdict-is = mv .verdict ∙ p .verdict-is;
               long-flows = length-set fs e unlisted ∙ p .long-flows;
               long-rows = ap length (m .words) ∙ p .long-rows;
-              ends = rw (m .empties, m .running, m .state, m .words, emptied-more e fs here) ends;
+              ends = rw (m .empties, m .running, m .words, emptied-more e fs here) ends;
               live = λ h. record {
                 ready = record {
                   accepted = ready .accepted;
                   to-note = omega (arith, h, many);
                   flows = omega (arith, m .empties, at, ready .flows);
-                  runs = rw (m .running, m .state, m .words) (ready .runs);
+                  unbegun = λ _. rw (m .running) (ready .unbegun (omega (arith, at)));
+                  runs = rw (m .running, m .words) (ready .runs);
                 };
                 records-left = omega (arith, m .empties, at, lives .records-left);
                 records-there = lives .records-there;
                 records-room = rw (m .empties, m .running, emptied-more e fs here) room;
               };
-            },
-          )
+            });
+          }
 
-      on-started : g .empties ≡ 0 → Starts L g s ws g′ s′ ws′ → On
+      on-started : g .empties ≡ 0 → Starts L g s ws g′ shown ws′ → On
       unfolding adds changed recorded records summary counted over rowWords wayWords
       on-started at m =
           let row = m .start .row in
-          let turn = g .running .summary .turns in
-          let within = bounds L g s (length ws) ready at (m .start) (m .is) in
+          let turn = g .running .planner .core .turns in
+          let within = row-within L g s (length ws) ready at (m .start) (m .is) in
           let fits = row-room L g s (length ws) ready at in
+          let turns : g′ .running .planner .core .turns ≡ row .turn = ap (λ (x : Summary). x .turns) (m .summary) in
           let many : i ≡ g′ .empties + g′ .running .left = omega (arith, p .many, at, m .empties, m .left) in
           let long : length ws′ ≡ length ws = ap length (m .words) ∙ length-over ws (g .running .at) (rowWords row) 15 refl fits in
-          let short = dominant-within (ready .accepted .each (row .block) (within .1 .block)) in
+          let short = dominant-within (ready .accepted .each (row .block) (within .block)) in
           let there : c .flows ≤ length fs = omega (arith, lives .records-there, p .long-flows) in
           let ends = rw (at, next-row L g s (length ws) ready at (m .start) (m .is)) at (p .ends) in
           let room = rw at at (lives .records-room) in
-          rw (m .change) (
-            omega (arith, within .1 .flow, there),
-            row-fits table (c .flows) (g .running .left) turn fs row (within .1 .flow) short room,
-            record {
+          record {
+            here = rw (m .change) (omega (arith, within .flow, there));
+            fits = rw (m .change) (row-fits table (c .flows) (g .running .left) turn fs row (within .flow) short room);
+            then = m .start .then;
+            shows = m .state;
+            goes = rw (m .change) (record {
               many = many;
               go = mv .go ∙ ap (ltb 0) (sym many);
               verdict-is = mv .verdict ∙ p .verdict-is;
               long-flows = length-set fs (row .flow) _ ∙ p .long-flows;
               long-rows = long ∙ p .long-rows;
-              ends = rw (m .empties, m .summary, m .left, m .state, m .at, m .words, written-more (g .running .at) ws row (run L (g .running .left - 1) (m .start .then)) fits) ends;
+              ends = rw (m .empties, m .summary, turns, m .left, m .at, m .words, written-more (g .running .at) ws row (run L (g .running .left - 1) (m .start .then)) fits) ends;
               live = λ h. record {
                 ready = record {
                   accepted = ready .accepted;
                   to-note = omega (arith, h, many);
                   flows = omega (arith, m .empties);
-                  runs = rw (m .state, long) (runs-on L g s (length ws) ready at (m .start) (m .is) (g′ .running) (m .summary) (m .at) (m .left));
+                  unbegun = λ some. absurd (omega (arith, m .empties));
+                  runs = rw long (runs-on L g s (length ws) ready at (m .start) (m .is) (g′ .running) (m .summary) (m .at) (m .left));
                 };
                 records-left = omega (arith, m .empties);
                 records-there = lives .records-there;
-                records-room = rw (m .empties, m .left) (row-added table (c .flows) (g .running .left) turn fs row (within .1 .flow) short room (to-start L g s (length ws) ready at) there);
+                records-room = rw (m .empties, m .left) (row-added table (c .flows) (g .running .left) turn fs row (within .flow) short room (to-start L g s (length ws) ready at) there);
               };
-            },
-          )
+            });
+          }
 
       pub goes-on : On
       goes-on = go (g .empties) refl (mv .does) where
-        go : (e : ℕ) → g .empties ≡ e → Does L g s ws g′ s′ ws′ e → On
+        go : (e : ℕ) → g .empties ≡ e → Does L g s ws g′ shown ws′ e → On
         go zero at m = on-started at m
         go (suc e) at m = on-emptied e at m
 
   -- ---- nothing is to be noted any more
   pub goes-ends : (g : Going) (s : State) (fs : List FlowRecord) (ws : List ℕ) → Goes zero g s fs ws
-      → Plans c n table fs₀ ws₀ (answered (g .verdict) (g .running .summary)) fs ws
+      → Plans c n table fs₀ ws₀ (answered (g .verdict) (summaryOf (c .stages) (g .running))) fs ws
   unfolding records summary run
   goes-ends g s fs ws p =
       let no-flow : g .empties ≡ 0 = omega (arith, p .many) in

@@ -35,15 +35,18 @@ use Rattle.rules.specs.declared.answer.Planned.{Planned}
 use Rattle.rules.specs.declared.record.FlowRecord.{FlowRecord}
 use Rattle.rules.specs.Counts.{unlisted}
 use Rattle.rules.specs.Load.{loadOf}
+use Rattle.rules.specs.Plan as plan
 use Rattle.rules.proofs.answer.Planned as P
 use Rattle.rules.proofs.answer.Planned.Laws as P′
 use Rattle.rules.proofs.record.FlowRecord as T
+use Rattle.queues.specs.Queues as Queues
+use Rattle.queues.specs.Queues.{unlinked}
 use Rattle.waiting.specs.Entries.{entries, size}
 use Rattle.waiting.proofs.empty as empty
 use Rattle.progress.specs.declared.change.Change.{Change}
 use Rattle.progress.specs.declared.run.Going.{Going}
 use Rattle.progress.specs.Changes.{Fits, noted}
-use Rattle.progress.specs.Going.{answered, Begins, Moves, reached, Ready}
+use Rattle.progress.specs.Going.{answered, Begins, Moves, ReadyAt, Shows, summaryOf}
 use Rattle.progress.proofs.change.Change as U
 use Rattle.progress.proofs.change.Change.Laws as U′
 use Rattle.progress.proofs.run.Going as G
@@ -58,8 +61,8 @@ use Rattle.progress.proofs.run.next as next
 abbrev pub Listed : RattleType
 Listed = Array u64 size
 
-abbrev pub From : RattleType
-From = Array usize 64
+abbrev pub Queued : RattleType
+Queued = Array u32 Queues.size
 
 abbrev pub Gate : RattleType
 Gate = Array u64 64
@@ -132,15 +135,17 @@ module _ {M : Type 1} (𝓤 : URA M) (H : Heap 𝓤) (A : Atoms 𝓤) (W : Given
         move ! (3 ∷ []) $ split ! $ split ! $ move ! (2 ∷ []) $ feqL ! (λ is. at-once ! $ check ! (ap only is) $ keep ! (0 ∷ 2 ∷ []) $ done !))))
 
   -- ---- answer
-  module _ (g : Going) where
+  module _ (c : Counts) (g : Going) where
     abbrev pub to-answer : Answer 𝓤 H A mem run .Ghost
-    to-answer = ((tt, tt, tt, (g, tt), (goingVal g ∷ [], tt)), tt)
+    to-answer = ((tt, tt, tt, (c, (g, tt)), (N′.lowered c ∷ [], (goingVal g ∷ [], tt))), tt)
 
-    pub goes-answer : IsGoing g → ent 𝓤 (emp 𝓤) (Answer 𝓤 H A mem run .pre to-answer)
-    goes-answer is = qed W [] ∵ nothing ! $ owned ! G.the-row (Is G.the-row) (LL.makes G.the-type G′.the-plain 𝓤 H A) g _ is $ fjoin ! $ nothing ! $ join ! $ frame ! $ done !
+    pub goes-answer : Is N.the-row c (N′.lowered c ∷ []) → IsGoing g → ent 𝓤 (emp 𝓤) (Answer 𝓤 H A mem run .pre to-answer)
+    goes-answer c-is is =
+        qed W [] ∵ nothing ! $ owned ! G.the-row (Is G.the-row) (LL.makes G.the-type G′.the-plain 𝓤 H A) g _ is $ fjoin ! $ owned ! N.the-row (Is N.the-row) (LL.makes N.the-type N′.the-plain 𝓤 H A) c _ c-is $ fjoin ! $
+        nothing ! $ join ! $ frame ! $ done !
 
     abbrev answered-by : Planned
-    answered-by = answered (g .verdict) (g .running .summary)
+    answered-by = answered (g .verdict) (summaryOf (c .stages) (g .running))
 
     abbrev pub after-answer : Val → Item 𝓤
     after-answer v = later (given ((v ≡ P′.lowered answered-by) × Is P.the-row answered-by (P′.lowered answered-by ∷ [])) (‵ ftrue))
@@ -148,7 +153,7 @@ module _ {M : Type 1} (𝓤 : URA M) (H : Heap 𝓤) (A : Atoms 𝓤) (W : Given
     pub gives-answer : (v : Val) → ent 𝓤 (Answer 𝓤 H A mem run .post to-answer v) (mean 𝓤 H A (after-answer v))
     gives-answer v =
         qed W (raw (Answer 𝓤 H A mem run .post to-answer v) ∷ []) ∵ updating ! $
-        use1 W (later (some (λ (r : Planned). (‵ ftrue ⊛ ‵ (P.the-row .own r (v ∷ []))) ⊛ some (λ (ws : Lasts answer.ended tt (g, tt)). ‵ (lasts answer.ended tt (g, tt) ws) ⊛ raw (fact 𝓤 (r ≡ answered-by)))))) (id⊢ 𝓤 _) $ await ! tt $ pick ! (λ r.
+        use1 W (later (some (λ (r : Planned). (‵ ftrue ⊛ ‵ (P.the-row .own r (v ∷ []))) ⊛ some (λ (ws : Lasts answer.ended tt (c, (g, tt))). ‵ (lasts answer.ended tt (c, (g, tt)) ws) ⊛ raw (fact 𝓤 (r ≡ answered-by)))))) (id⊢ 𝓤 _) $ await ! tt $ pick ! (λ r.
         split ! $ move ! (1 ∷ []) $ pick ! (λ ws. split ! $ move ! (1 ∷ []) $ heard ! (r ≡ answered-by) (λ e. drop ! $ split ! $ drop ! $
         rewrite ! 0 (λ (p : Planned). ‵ (P.the-row .own p (v ∷ []))) e refl $ facts ! P.the-row (Is P.the-row) (shows 𝓤 H A P.the-row) answered-by (v ∷ []) (λ is.
         let v-is : v ∷ [] ≡ P′.lowered answered-by ∷ [] = P′.lowers .val-is answered-by _ is in
@@ -161,56 +166,75 @@ module _ {M : Type 1} (𝓤 : URA M) (H : Heap 𝓤) (A : Atoms 𝓤) (W : Given
     abbrev ownₓ : Fml
     ownₓ = ShrSlice (named 0) κ u32 .own x (sₓ ∷ [])
 
-    -- ---- first, of a list that is lent
-    module _ (n f w : ℕ) (b : ℕ) (ν : ℕ) (δ : GName) (list : List ℕ) where
-      abbrev first-args : Counts × (ℕ × (RefT (List ℕ) × (ℕ × (ℕ × (RefT (List ℕ) × Unit {0})))))
-      first-args = (c, (n, (x, (f, (w, (whole b δ list, tt))))))
+    -- ---- first, of a list and queues that are lent
+    module _ (n f w : ℕ) (b₁ ν₁ : ℕ) (δ₁ : GName) (list : List ℕ) (b₂ ν₂ : ℕ) (δ₂ : GName) (queues : List ℕ) where
+      abbrev first-args : Counts × (ℕ × (RefT (List ℕ) × (ℕ × (ℕ × (RefT (List ℕ) × (RefT (List ℕ) × Unit {0}))))))
+      first-args = (c, (n, (x, (f, (w, (whole b₁ δ₁ list, (whole b₂ δ₂ queues, tt)))))))
+
+      abbrev first-ends : Lft × (Lft × (Lft × Unit {0}))
+      first-ends = (κ, (ν₁ ∷ [], (ν₂ ∷ [], tt)))
 
       abbrev pub to-first : First 𝓤 H A mem run .Ghost
-      to-first = (((κ, (ν ∷ [], tt)), (q, (fullShare, tt)), tt, first-args, (N′.lowered c ∷ [], (vint w64 n ∷ [], (sₓ ∷ [], (vint w64 f ∷ [], (vint w64 w ∷ [], (vptr b 0 ∷ [], tt))))))), tt)
+      to-first = ((first-ends, (q, (fullShare, (fullShare, tt))), tt, first-args, (N′.lowered c ∷ [], (vint w64 n ∷ [], (sₓ ∷ [], (vint w64 f ∷ [], (vint w64 w ∷ [], (vptr b₁ 0 ∷ [], (vptr b₂ 0 ∷ [], tt)))))))), tt)
 
-      abbrev lent : Fml
-      lent = MutRef (named 1) (ν ∷ []) Listed .own (whole b δ list) (vptr b 0 ∷ [])
+      abbrev first-lent : List (Item 𝓤)
+      first-lent = ‵ (flft κ q) ∷ ‵ ownₓ ∷ ‵ (flft (ν₁ ∷ []) fullShare) ∷ ‵ (MutRef (named 1) (ν₁ ∷ []) Listed .own (whole b₁ δ₁ list) (vptr b₁ 0 ∷ []))
+          ∷ ‵ (flft (ν₂ ∷ []) fullShare) ∷ ‵ (MutRef (named 2) (ν₂ ∷ []) Queued .own (whole b₂ δ₂ queues) (vptr b₂ 0 ∷ [])) ∷ []
 
-      first-pre : Is N.the-row c (N′.lowered c ∷ []) → n < 2 ^ 64 → f < 2 ^ 64 → w < 2 ^ 64 → entries list ≡ []
-          → ent 𝓤 (⋆ 𝓤 H A (‵ (flft (ν ∷ []) fullShare) ∷ ‵ lent ∷ ‵ (flft κ q) ∷ ‵ ownₓ ∷ [])) (First 𝓤 H A mem run .pre to-first)
-      first-pre is n-fits f-fits w-fits none =
-          qed W (‵ (flft (ν ∷ []) fullShare) ∷ ‵ lent ∷ ‵ (flft κ q) ∷ ‵ ownₓ ∷ []) ∵ says ! none $ nothing ! $ move ! (1 ∷ 0 ∷ []) $ join ! $ move ! (2 ∷ 0 ∷ []) $ join ! $ frame ! $
-          -- [the list; the blocks]
-          nothing ! $ move ! (1 ∷ 0 ∷ []) $ fjoin ! $ owned ! usize (Is usize) (uint-makes 𝓤 H A W w64) w _ (refl, w-fits) $ fjoin ! $ owned ! usize (Is usize) (uint-makes 𝓤 H A W w64) f _ (refl, f-fits) $ fjoin ! $
+      abbrev Fresh : Type 0
+      Fresh = (entries list ≡ []) × (queues ≡ unlinked)
+
+      first-pre : Is N.the-row c (N′.lowered c ∷ []) → n < 2 ^ 64 → f < 2 ^ 64 → w < 2 ^ 64 → Fresh → ent 𝓤 (⋆ 𝓤 H A first-lent) (First 𝓤 H A mem run .pre to-first)
+      first-pre is n-fits f-fits w-fits fresh =
+          qed W first-lent ∵ says ! fresh $ nothing ! $ move ! (5 ∷ 0 ∷ []) $ join ! $ move ! (3 ∷ 0 ∷ []) $ join ! $ move ! (1 ∷ 0 ∷ []) $ join ! $ frame ! $
+          -- [the blocks; the list; the queues]
+          nothing ! $ move ! (3 ∷ 0 ∷ []) $ fjoin ! $ move ! (2 ∷ 0 ∷ []) $ fjoin ! $ owned ! usize (Is usize) (uint-makes 𝓤 H A W w64) w _ (refl, w-fits) $ fjoin ! $ owned ! usize (Is usize) (uint-makes 𝓤 H A W w64) f _ (refl, f-fits) $ fjoin ! $
           move ! (1 ∷ 0 ∷ []) $ fjoin ! $ owned ! u64 (Is u64) (uint-makes 𝓤 H A W w64) n _ (refl, n-fits) $ fjoin ! $ owned ! N.the-row (Is N.the-row) (LL.makes N.the-type N′.the-plain 𝓤 H A) c _ is $ fjoin ! $ done !
 
-      pub goes-first : Is N.the-row c (N′.lowered c ∷ []) → n < 2 ^ 64 → f < 2 ^ 64 → w < 2 ^ 64 → entries list ≡ []
-          → ent 𝓤 (⋆ 𝓤 H A (‵ (flft (ν ∷ []) fullShare) ∷ ‵ lent ∷ ‵ (flft κ q) ∷ ‵ ownₓ ∷ [])) (sep 𝓤 (First 𝓤 H A mem run .pre to-first) (sem 𝓤 H A ownₓ))
-      goes-first is n-fits f-fits w-fits none =
-          qed W (‵ (flft (ν ∷ []) fullShare) ∷ ‵ lent ∷ ‵ (flft κ q) ∷ ‵ ownₓ ∷ []) ∵ move ! (3 ∷ []) $ use1 W (‵ ownₓ ⊛ ‵ ownₓ) (shr-slice-copy 𝓤 H A W (named 0) κ u32 .twice x (sₓ ∷ [])) $ split ! $
-          move ! (2 ∷ 3 ∷ 4 ∷ 0 ∷ []) $ group ! 4 $ use1 W (raw (First 𝓤 H A mem run .pre to-first)) (first-pre is n-fits f-fits w-fits none) $ done !
+      pub goes-first : Is N.the-row c (N′.lowered c ∷ []) → n < 2 ^ 64 → f < 2 ^ 64 → w < 2 ^ 64 → Fresh → ent 𝓤 (⋆ 𝓤 H A first-lent) (sep 𝓤 (First 𝓤 H A mem run .pre to-first) (sem 𝓤 H A ownₓ))
+      goes-first is n-fits f-fits w-fits fresh =
+          qed W first-lent ∵ move ! (1 ∷ []) $ use1 W (‵ ownₓ ⊛ ‵ ownₓ) (shr-slice-copy 𝓤 H A W (named 0) κ u32 .twice x (sₓ ∷ [])) $ split ! $
+          move ! (2 ∷ 0 ∷ 3 ∷ 4 ∷ 5 ∷ 6 ∷ []) $ group ! 6 $ use1 W (raw (First 𝓤 H A mem run .pre to-first)) (first-pre is n-fits f-fits w-fits fresh) $ done !
 
-      abbrev first-back : Val → Going × List ℕ → Item 𝓤
-      first-back v y = given ((v ≡ goingVal (y .0)) × IsGoing (y .0) × Begins c n (x .now) f w (y .0) (y .1))
-          (‵ (flft κ q) ⊛ (‵ (flft (ν ∷ []) fullShare) ⊛ ‵ (fres δ (Listed .coded .code (y .1)))))
+      -- where the call is then, and what the two arrays hold
+      pub record Begun : Type 0 where
+        pub g : Going
+        pub list′ : List ℕ
+        pub queues′ : List ℕ
+
+      abbrev begins : Begun → Type 0
+      begins y = Begins c n (x .now) f w (y .g) (y .list′) (y .queues′)
+
+      abbrev first-back : Val → Begun → Item 𝓤
+      first-back v y = given ((v ≡ goingVal (y .g)) × IsGoing (y .g) × begins y)
+          (‵ (flft κ q) ⊛ (‵ (flft (ν₁ ∷ []) fullShare) ⊛ (‵ (fres δ₁ (Listed .coded .code (y .list′))) ⊛ (‵ (flft (ν₂ ∷ []) fullShare) ⊛ ‵ (fres δ₂ (Queued .coded .code (y .queues′)))))))
 
       abbrev pub after-first : Val → Item 𝓤
       after-first v = later (some (first-back v))
+
+      abbrev begun : Going → Lasts first.ended first-ends first-args → Begun
+      begun r ws = record { g = r; list′ = ws .1 .1 .1 .1 .1 .0; queues′ = ws .1 .1 .1 .1 .1 .1 .0 }
 
       pub gives-first : (v : Val) → ent 𝓤 (First 𝓤 H A mem run .post to-first v) (mean 𝓤 H A (after-first v))
       unfolding goingVal
       gives-first v =
           qed W (raw (First 𝓤 H A mem run .post to-first v) ∷ []) ∵ updating ! $
-          use1 W (later (some (λ (r : Going). ((‵ (flft κ q) ⊛ (‵ (flft (ν ∷ []) fullShare) ⊛ ‵ ftrue)) ⊛ ‵ (G.the-row .own r (v ∷ [])))
-          ⊛ some (λ (ws : Lasts first.ended (κ, (ν ∷ [], tt)) first-args). ‵ (lasts first.ended (κ, (ν ∷ [], tt)) first-args ws) ⊛ raw (fact 𝓤 (Begins c n (x .now) f w r (ws .1 .1 .1 .1 .1 .0))))))) (id⊢ 𝓤 _) $ await ! tt $ pick ! (λ r.
-          split ! $ move ! (1 ∷ []) $ pick ! (λ ws. split ! $ move ! (1 ∷ []) $ heard ! (Begins c n (x .now) f w r (ws .1 .1 .1 .1 .1 .0)) (λ e.
-          fsplit ! $ drop ! $ fsplit ! $ drop ! $ fsplit ! $ drop ! $ fsplit ! $ drop ! $ fsplit ! $ drop ! $ fsplit ! $ move ! (2 ∷ []) $ split ! $ split ! $ move ! (1 ∷ []) $ split ! $
-          -- [ν's token; true; κ's; the result; what is said last of the list; true]
-          move ! (3 ∷ []) $ facts ! G.the-row (Is G.the-row) (shows 𝓤 H A G.the-row) r (v ∷ []) (λ is.
+          use1 W (later (some (λ (r : Going). ((‵ (flft κ q) ⊛ (‵ (flft (ν₁ ∷ []) fullShare) ⊛ (‵ (flft (ν₂ ∷ []) fullShare) ⊛ ‵ ftrue))) ⊛ ‵ (G.the-row .own r (v ∷ [])))
+          ⊛ some (λ (ws : Lasts first.ended first-ends first-args). ‵ (lasts first.ended first-ends first-args ws) ⊛ raw (fact 𝓤 (begins (begun r ws))))))) (id⊢ 𝓤 _) $ await ! tt $ pick ! (λ r.
+          split ! $ move ! (1 ∷ []) $ pick ! (λ ws. split ! $ move ! (1 ∷ []) $ heard ! (begins (begun r ws)) (λ e.
+          fsplit ! $ drop ! $ fsplit ! $ drop ! $ fsplit ! $ drop ! $ fsplit ! $ drop ! $ fsplit ! $ drop ! $ fsplit ! $ move ! (1 ∷ []) $ fsplit ! $
+          -- [what is said last of the queues; true; of the list; the tokens and the result]
+          move ! (3 ∷ []) $ split ! $ split ! $ move ! (1 ∷ []) $ split ! $ move ! (1 ∷ []) $ split ! $
+          -- [ν₂'s token; true; ν₁'s; κ's; the result; the queues; true; the list]
+          move ! (4 ∷ []) $ facts ! G.the-row (Is G.the-row) (shows 𝓤 H A G.the-row) r (v ∷ []) (λ is.
           let v-is : v ∷ [] ≡ goingVal r ∷ [] = G′.lowers .val-is r _ is in
-          at-once ! $ show ! (λ (y : Going × List ℕ). mean 𝓤 H A (first-back v y)) (r, ws .1 .1 .1 .1 .1 .0) $ check ! (ap only v-is, subst (λ (us : List Val). Is G.the-row r us) v-is is, e) $ keep ! (2 ∷ 0 ∷ 3 ∷ []) $ done !))))
+          at-once ! $ show ! (λ (y : Begun). mean 𝓤 H A (first-back v y)) (begun r ws) $ check ! (ap only v-is, subst (λ (us : List Val). Is G.the-row r us) v-is is, e) $ keep ! (3 ∷ 2 ∷ 6 ∷ 0 ∷ 4 ∷ []) $ done !))))
 
     -- ---- next, of the three arrays and the rows, which are lent
-    module _ (g : Going) (b₁ ν₁ : ℕ) (δ₁ : GName) (list : List ℕ) (b₂ ν₂ : ℕ) (δ₂ : GName) (from : List ℕ) (b₃ ν₃ : ℕ) (δ₃ : GName) (gate : List ℕ)
+    module _ (g : Going) (b₁ ν₁ : ℕ) (δ₁ : GName) (list : List ℕ) (b₂ ν₂ : ℕ) (δ₂ : GName) (queues : List ℕ) (b₃ ν₃ : ℕ) (δ₃ : GName) (gate : List ℕ)
         (b o : ℕ) (s : Val) (ν : ℕ) (δ : GName) (rows : List ℕ) where
       abbrev next-args : Counts × (RefT (List ℕ) × (Going × (RefT (List ℕ) × (RefT (List ℕ) × (RefT (List ℕ) × (RefT (List ℕ) × Unit {0}))))))
-      next-args = (c, (x, (g, (whole b₁ δ₁ list, (whole b₂ δ₂ from, (whole b₃ δ₃ gate, (record { ptr = (b, o); name = δ; now = rows }, tt)))))))
+      next-args = (c, (x, (g, (whole b₁ δ₁ list, (whole b₂ δ₂ queues, (whole b₃ δ₃ gate, (record { ptr = (b, o); name = δ; now = rows }, tt)))))))
 
       abbrev ends : Lft × (Lft × (Lft × (Lft × (Lft × Unit {0}))))
       ends = (κ, (ν₁ ∷ [], (ν₂ ∷ [], (ν₃ ∷ [], (ν ∷ [], tt)))))
@@ -222,7 +246,7 @@ module _ {M : Type 1} (𝓤 : URA M) (H : Heap 𝓤) (A : Atoms 𝓤) (W : Given
       lent₁ = MutRef (named 1) (ν₁ ∷ []) Listed .own (whole b₁ δ₁ list) (vptr b₁ 0 ∷ [])
 
       abbrev lent₂ : Fml
-      lent₂ = MutRef (named 2) (ν₂ ∷ []) From .own (whole b₂ δ₂ from) (vptr b₂ 0 ∷ [])
+      lent₂ = MutRef (named 2) (ν₂ ∷ []) Queued .own (whole b₂ δ₂ queues) (vptr b₂ 0 ∷ [])
 
       abbrev lent₃ : Fml
       lent₃ = MutRef (named 3) (ν₃ ∷ []) Gate .own (whole b₃ δ₃ gate) (vptr b₃ 0 ∷ [])
@@ -234,7 +258,7 @@ module _ {M : Type 1} (𝓤 : URA M) (H : Heap 𝓤) (A : Atoms 𝓤) (W : Given
       all-lent = ‵ (flft κ q) ∷ ‵ ownₓ ∷ ‵ (flft (ν₁ ∷ []) fullShare) ∷ ‵ lent₁ ∷ ‵ (flft (ν₂ ∷ []) fullShare) ∷ ‵ lent₂ ∷ ‵ (flft (ν₃ ∷ []) fullShare) ∷ ‵ lent₃ ∷ ‵ (flft (ν ∷ []) fullShare) ∷ ‵ lent₄ ∷ []
 
       abbrev Asked : Type 0
-      Asked = Ready (loadOf c (x .now)) g (reached g list from gate) (length rows)
+      Asked = ReadyAt (loadOf c (x .now)) g list queues gate (length rows)
 
       next-pre : Is N.the-row c (N′.lowered c ∷ []) → IsGoing g → Asked → ent 𝓤 (⋆ 𝓤 H A all-lent) (Next 𝓤 H A mem run .pre to-next)
       next-pre c-is g-is ready =
@@ -252,23 +276,24 @@ module _ {M : Type 1} (𝓤 : URA M) (H : Heap 𝓤) (A : Atoms 𝓤) (W : Given
       pub record Then : Type 0 where
         pub g′ : Going
         pub list′ : List ℕ
-        pub from′ : List ℕ
+        pub queues′ : List ℕ
         pub gate′ : List ℕ
         pub rows′ : List ℕ
 
       abbrev moves : Then → Type 0
-      moves y = Moves (loadOf c (x .now)) g (reached g list from gate) rows (y .g′) (reached (y .g′) (y .list′) (y .from′) (y .gate′)) (y .rows′)
+      moves y =
+          (s : plan.State) → Shows (loadOf c (x .now)) g list queues gate s → Moves (loadOf c (x .now)) g s rows (y .g′) (Shows (loadOf c (x .now)) (y .g′) (y .list′) (y .queues′) (y .gate′)) (y .rows′)
 
       abbrev next-back : Val → Then → Item 𝓤
       next-back v y = given ((v ≡ goingVal (y .g′)) × IsGoing (y .g′) × (length (y .rows′) ≡ length rows) × moves y)
-          (‵ (flft κ q) ⊛ (‵ (flft (ν₁ ∷ []) fullShare) ⊛ (‵ (fres δ₁ (Listed .coded .code (y .list′))) ⊛ (‵ (flft (ν₂ ∷ []) fullShare) ⊛ (‵ (fres δ₂ (From .coded .code (y .from′))) ⊛ (‵ (flft (ν₃ ∷ []) fullShare) ⊛ (‵ (fres δ₃ (Gate .coded .code (y .gate′)))
+          (‵ (flft κ q) ⊛ (‵ (flft (ν₁ ∷ []) fullShare) ⊛ (‵ (fres δ₁ (Listed .coded .code (y .list′))) ⊛ (‵ (flft (ν₂ ∷ []) fullShare) ⊛ (‵ (fres δ₂ (Queued .coded .code (y .queues′))) ⊛ (‵ (flft (ν₃ ∷ []) fullShare) ⊛ (‵ (fres δ₃ (Gate .coded .code (y .gate′)))
           ⊛ (‵ (flft (ν ∷ []) fullShare) ⊛ ‵ (finally u64 δ (y .rows′))))))))))
 
       abbrev pub after-next : Val → Item 𝓤
       after-next v = later (some (next-back v))
 
       abbrev then : Going → Lasts next.ended ends next-args → Then
-      then r ws = record { g′ = r; list′ = ws .1 .1 .1 .0; from′ = ws .1 .1 .1 .1 .0; gate′ = ws .1 .1 .1 .1 .1 .0; rows′ = ws .1 .1 .1 .1 .1 .1 .0 }
+      then r ws = record { g′ = r; list′ = ws .1 .1 .1 .0; queues′ = ws .1 .1 .1 .1 .0; gate′ = ws .1 .1 .1 .1 .1 .0; rows′ = ws .1 .1 .1 .1 .1 .1 .0 }
 
       pub gives-next : (v : Val) → ent 𝓤 (Next 𝓤 H A mem run .post to-next v) (mean 𝓤 H A (after-next v))
       unfolding goingVal
@@ -278,9 +303,9 @@ module _ {M : Type 1} (𝓤 : URA M) (H : Heap 𝓤) (A : Atoms 𝓤) (W : Given
           ⊛ some (λ (ws : Lasts next.ended ends next-args). ‵ (lasts next.ended ends next-args ws) ⊛ raw (fact 𝓤 (moves (then r ws))))))) (id⊢ 𝓤 _) $ await ! tt $ pick ! (λ r.
           split ! $ move ! (1 ∷ []) $ pick ! (λ ws. split ! $ move ! (1 ∷ []) $ heard ! (moves (then r ws)) (λ e.
           fsplit ! $ drop ! $ fsplit ! $ drop ! $ fsplit ! $ drop ! $ fsplit ! $ move ! (1 ∷ []) $ fsplit ! $ move ! (1 ∷ []) $ fsplit ! $ move ! (1 ∷ []) $ fsplit ! $ fsplit ! $
-          -- [what is said last of the rows; their length; …; of the gates; of the places; of the list; the tokens and the result]
+          -- [what is said last of the rows; their length; …; of the gates; of the queues; of the list; the tokens and the result]
           move ! (1 ∷ []) $ feqL ! (λ long. move ! (5 ∷ []) $ split ! $ split ! $ move ! (1 ∷ []) $ split ! $ move ! (1 ∷ []) $ split ! $ move ! (1 ∷ []) $ split ! $ move ! (1 ∷ []) $ split ! $
-          -- [ν's token; true; ν₃'s; ν₂'s; ν₁'s; κ's; the result; the rows; …; the gates; the places; the list]
+          -- [ν's token; true; ν₃'s; ν₂'s; ν₁'s; κ's; the result; the rows; …; the gates; the queues; the list]
           move ! (6 ∷ []) $ facts ! G.the-row (Is G.the-row) (shows 𝓤 H A G.the-row) r (v ∷ []) (λ is.
           let v-is : v ∷ [] ≡ goingVal r ∷ [] = G′.lowers .val-is r _ is in
           at-once ! $ show ! (λ (y : Then). mean 𝓤 H A (next-back v y)) (then r ws) $ check ! (ap only v-is, subst (λ (us : List Val). Is G.the-row r us) v-is is, long, e) $ keep ! (5 ∷ 4 ∷ 10 ∷ 3 ∷ 9 ∷ 2 ∷ 8 ∷ 0 ∷ 6 ∷ []) $ done !)))))

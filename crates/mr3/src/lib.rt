@@ -21,12 +21,28 @@ pub fn plan(
     ensures { λ r. ⌜ Plans counts limit (now (blocks .entry)) (now (flows .entry)) (now (rows .entry)) r (now (flows .exit)) (now (rows .exit)) ⌝ }
 {
     let mut list = waiting::empty();
-    let mut from = [0usize; 64];
+    let mut queues: queues::Storage = [queues::NONE; 1088];
     let mut gate = [0u64; 64];
-    let mut going = run::first(counts, limit, blocks, flows.len(), rows.len(), &mut list);
+    let mut going = run::first(
+        counts,
+        limit,
+        blocks,
+        flows.len(),
+        rows.len(),
+        &mut list,
+        &mut queues,
+    );
     while going.go {
-        going = run::next(counts, blocks, going, &mut list, &mut from, &mut gate, rows);
+        going = run::next(
+            counts,
+            blocks,
+            going,
+            &mut list,
+            &mut queues,
+            &mut gate,
+            rows,
+        );
         record::note(flows, going.change);
     }
-    run::answer(going)
+    run::answer(counts, going)
 }

@@ -1,8 +1,11 @@
 // What a plan call changes in the flow table, one record at a time.
+ghost use mathlib.Core.List.{List};
 ghost use mathlib.Core.Path.{_≡_};
+ghost use Prim.Native.Nat.{ℕ};
 ghost use lib.Dec.{ltb};
+ghost use Rattle.dominant.specs.Dominant.{dominantTime};
 ghost use Rattle.rules.specs.Counts.{one};
-ghost use Rattle.arrivals.specs.Room.{HasBlock};
+ghost use Rattle.rules.specs.Load.{blockAt};
 ghost use Rattle.progress.specs.Changes.{adds as Changes·adds, changed as Changes·changed, empties as Changes·empties, Fits};
 use rules::record::FlowRecord;
 use rules::row::Row;
@@ -34,18 +37,15 @@ fn begins(before: u64, turn: u64) -> u64
     if before < turn { 1 } else { 0 }
 }
 
-// A row is added to its flow's record, after one of the turn `before`.
-pub fn adds(blocks: &[u32], before: u64, row: Row) -> Change
-    requires { ⌜ HasBlock (now blocks) (row .block) ⌝ }
-    ensures { λ r. ⌜ r ≡ Changes·adds (now (blocks .entry)) before row ⌝ }
+// A row is added to its flow's record, after one of the turn `before`. The time is its block's dominant time.
+pub fn adds(before: u64, row: Row, time: u64) -> Change
+    ensures { λ r. ⌜ ((table : List ℕ) → time ≡ dominantTime (blockAt table (row .block)) → r ≡ Changes·adds table before row) ⌝ }
 {
-    let at = 6 * row.block as usize;
-    let time = dominant::time(load::block::at(&blocks[at..]));
     Change {
         flow: row.flow as usize,
         empty: false,
         turns: begins(before, row.turn),
-        time: time as u64,
+        time,
     }
 }
 

@@ -1,4 +1,3 @@
-// A start's row: a block's way through the stages, the row's words, and what is counted of it.
+// A start's row: a block's way through the stages, and the row's words.
 pub mod row;
 pub mod stages;
-pub mod tally;

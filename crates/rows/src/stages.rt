@@ -1,6 +1,8 @@
 // A block's way through the stages.
+ghost use mathlib.Core.Bool.{cond};
 ghost use mathlib.Core.Path.{_≡_};
 ghost use Prim.Native.Nat.{_≤_, max};
+ghost use lib.Dec.{eqb};
 ghost use Rattle.rules.specs.Stages.{laterRun, lastRun, wayOf};
 ghost use Rattle.rules.specs.Within.{WayWithin};
 use load::block::Block;
@@ -51,18 +53,44 @@ pub fn pass(stages: usize, before: Way, start: u64, block: Block) -> Way
     }
 }
 
-// The run at the last stage.
-pub fn last(stages: usize, way: Way) -> Span
-    ensures { λ r. ⌜ r ≡ lastRun stages way ⌝ }
+// Of four numbers, one for each stage, that of the last stage. Numbers and not runs, since a run would go through memory.
+fn last(stages: usize, one: u64, two: u64, three: u64, four: u64) -> u64
+    ensures { λ r. ⌜ r ≡ cond (eqb stages 1) one (cond (eqb stages 2) two (cond (eqb stages 3) three four)) ⌝ }
 {
     if stages == 1 {
-        return way.one;
+        return one;
     }
     if stages == 2 {
-        return way.two;
+        return two;
     }
     if stages == 3 {
-        return way.three;
+        return three;
     }
-    way.four
+    four
+}
+
+// The tick at which the run at the last stage starts.
+pub fn last_start(stages: usize, way: Way) -> u64
+    ensures { λ r. ⌜ r ≡ lastRun stages way .start ⌝ }
+{
+    last(
+        stages,
+        way.one.start,
+        way.two.start,
+        way.three.start,
+        way.four.start,
+    )
+}
+
+// The tick at which the run at the last stage ends.
+pub fn last_finish(stages: usize, way: Way) -> u64
+    ensures { λ r. ⌜ r ≡ lastRun stages way .finish ⌝ }
+{
+    last(
+        stages,
+        way.one.finish,
+        way.two.finish,
+        way.three.finish,
+        way.four.finish,
+    )
 }

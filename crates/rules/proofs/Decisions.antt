@@ -16,10 +16,11 @@ use Rattle.rules.specs.declared.mode.Turn.{Turn}
 use Rattle.rules.specs.Account.{called, noted}
 use Rattle.rules.specs.Load.{Load}
 use Rattle.rules.specs.Plan.{Core, State, onward, readied, rejoined, settled, state, taken, tested, waits, withLine, withRound, woken}
+use Rattle.rules.specs.Unstarted.{Open}
 use Rattle.rules.specs.Waiting.{listed}
 use Rattle.rules.specs.Within.{Away}
 use Rattle.rules.proofs.Balances.{Listed}
-use Rattle.rules.proofs.Unstarted.{Open, Whole, open-waits}
+use Rattle.rules.proofs.Unstarted.{Whole, open-waits}
 use Rattle.rules.proofs.Whole.{turn-leaves as leaves-whole, turn-rejoins as rejoins-whole}
 use Rattle.rules.proofs.Accounts.{Account, In, Out, Settles, Standing}
 use Rattle.rules.proofs.Standing.{allowed, allowed-none, joined-own, joined-same, round-opens, split-length, standingIn}

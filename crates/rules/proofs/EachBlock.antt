@@ -20,12 +20,13 @@ use Rattle.rules.specs.Counts.{counted, none, one, summary}
 use Rattle.rules.specs.EachBlock.{dominantRun, EachBlockOnce, EachRow, OfItsBlock, sumBelow, sumOf, timesListed}
 use Rattle.rules.specs.Load.{Load, blockAt, loadOf}
 use Rattle.rules.specs.Plan.{State, origin, plan, run}
+use Rattle.rules.specs.Unstarted.{flowAt}
 use Rattle.rules.proofs.Accepting.{accepted}
 use Rattle.rules.proofs.Blocks.{dominant-within}
 use Rattle.rules.proofs.Starts.{accepted-sound, endOf, Sound}
 use Rattle.rules.proofs.Steps.{Good, origin-good, run-next, stepped}
 use Rattle.rules.proofs.Sums.{all-one, each-sum, rows-listed}
-use Rattle.rules.proofs.Unstarted.{flowAt, startedAt}
+use Rattle.rules.proofs.Unstarted.{startedAt}
 use Rattle.rules.proofs.Whole.{plan-length}
 
 module _ (L : Load) (M : ℕ) (ok : Sound L M) where

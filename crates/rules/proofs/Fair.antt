@@ -12,8 +12,8 @@ use Rattle.load.proofs.Cases.{cases}
 use Rattle.rules.specs.declared.row.Row.{Row}
 use Rattle.rules.specs.Load.{Load}
 use Rattle.rules.specs.Plan.{Started, State, origin, run, settled, state, upTo}
-use Rattle.rules.proofs.Unstarted.{Open}
 use Rattle.rules.specs.Fairness.{servedBy, service, waitsAt, WaitsFrom}
+use Rattle.rules.specs.Unstarted.{Open}
 use Rattle.rules.proofs.Accounts.{Account, Begins, Close, Early, Late, due-parts, early-ends, early-settles, early-starts, given, late-ends, late-enters, late-settles, late-starts, over, standing, starts-none}
 use Rattle.rules.proofs.Accounts as accounts
 use Rattle.rules.proofs.Decisions.{account, gain}

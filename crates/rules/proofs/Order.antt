@@ -22,6 +22,7 @@ use Rattle.rules.specs.declared.round.Round.{Round}
 use Rattle.rules.specs.Account.{noted}
 use Rattle.rules.specs.Load.{Load}
 use Rattle.rules.specs.Plan.{Core, Line, Started, State, after, arrivals, arrived, begins, begun, busy, first, further, heldUntil, onward, readied, rejoined, rowOf, settled, spent, started, state, taken, tested, turnOf, upTo, waits, where-waits, withLine, withRound, woken}
+use Rattle.rules.specs.Unstarted.{Open}
 use Rattle.rules.specs.Waiting.{Apart, listed}
 use Rattle.rules.specs.Within.{Away}
 use Rattle.rules.proofs.Accounts.{Begins, Sound, coming, given, standing}
@@ -30,7 +31,7 @@ use Rattle.rules.proofs.Bounds.{where-some}
 use Rattle.rules.proofs.Decisions.{account}
 use Rattle.rules.proofs.Lists.{arrivals-keep, listed-append, parts-apart, parts-out}
 use Rattle.rules.proofs.Standing.{allowed, due-all, due-within, split-length, standingIn}
-use Rattle.rules.proofs.Unstarted.{Open, open-waits}
+use Rattle.rules.proofs.Unstarted.{open-waits}
 use Rattle.rules.proofs.Waiting.{call-cases}
 
 abbrev order : List Entry → ℕ → List Entry → List Entry

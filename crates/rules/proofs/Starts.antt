@@ -24,12 +24,13 @@ use Rattle.rules.specs.EachBlock.{dominantRun, ownBlock}
 use Rattle.rules.specs.Load.{Load, blockAt, loadOf}
 use Rattle.rules.specs.Plan.{Core, Started, after, begins, begun, first, further, heldUntil, oldest, rowOf, spent, started, state, turnOf, upTo, waits, where-waits}
 use Rattle.rules.specs.Stages.{lastRun, runAt, wayOf}
+use Rattle.rules.specs.Unstarted.{flowAt}
 use Rattle.rules.specs.Within.{Accepted}
 use Rattle.rules.proofs.Accepting.{accepted, sorted, stage-there}
 use Rattle.rules.proofs.Balances.{HeldBalanced, Listed}
 use Rattle.rules.proofs.Blocks.{oldest-own}
 use Rattle.rules.proofs.Bounds.{where-some}
-use Rattle.rules.proofs.Unstarted.{flowAt, oldest-from, set-cases}
+use Rattle.rules.proofs.Unstarted.{oldest-from, set-cases}
 use Rattle.rules.specs.Fairness.{servedBy, ticksWithin}
 use Rattle.rules.proofs.Accounts.{In, Out, Served, Starts, Ticks}
 use Rattle.rules.proofs.Decisions.{account, listedAs}

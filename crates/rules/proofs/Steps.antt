@@ -15,10 +15,11 @@ use Rattle.rules.specs.declared.mode.Mode.the-variants.{Idle, Holds, InT
 use Rattle.rules.specs.declared.mode.Mode.{Mode}
 use Rattle.rules.specs.Load.{Load, blockAt}
 use Rattle.rules.specs.Plan.{Core, Started, State, onward, origin, readied, rejoined, rowsFrom, run, settled, started, state, step, taken, tested, turnOf, upTo, waits, withLine, withRound, woken}
+use Rattle.rules.specs.Unstarted.{Open}
 use Rattle.rules.specs.Within.{StateWithin}
 use Rattle.rules.proofs.Balances.{Balanced, HeldBalanced, Listed, Split, origin-balanced, settled-balanced, step-balanced}
 use Rattle.rules.proofs.Bounds.{origin-within, settled-within, step-within}
-use Rattle.rules.proofs.Unstarted.{Open, Whole}
+use Rattle.rules.proofs.Unstarted.{Whole}
 use Rattle.rules.proofs.Whole.{origin-whole, step-whole}
 use Rattle.rules.specs.Fairness.{servedBy}
 use Rattle.rules.proofs.Accounts.{Account, Settles, Starts, standing}

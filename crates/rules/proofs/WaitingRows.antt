@@ -11,8 +11,8 @@ use Rattle.load.proofs.Cases.{and-true, cases, either}
 use Rattle.rules.specs.declared.row.Row.{Row}
 use Rattle.rules.specs.Load.{Load, blockAt}
 use Rattle.rules.specs.Plan.{State, run}
-use Rattle.rules.proofs.Unstarted.{Open, flowAt}
 use Rattle.rules.specs.Fairness.{blockWaits, waitsAt}
+use Rattle.rules.specs.Unstarted.{Open, flowAt}
 use Rattle.rules.proofs.Starts.{Sound}
 use Rattle.rules.proofs.Steps.{Good, run-next, stepped}
 

@@ -24,13 +24,14 @@ use Rattle.rules.specs.Counts.{counted, none, summary}
 use Rattle.rules.specs.Load.{Load, blockAt, loadOf}
 use Rattle.rules.specs.Plan.{Core, Started, State, after, begins, begun, first, further, heldUntil, oldest, onward, origin, plan, readied, rejoined}
 use Rattle.rules.specs.Plan.{rowOf, rowsFrom, run, settled, spent, started, state, step, taken, tested, turnOf, upTo, waits, where-waits, withLine, withRound, woken}
+use Rattle.rules.specs.Unstarted.{Queue, flowAt, front}
 use Rattle.rules.specs.Waiting.{listed}
-use Rattle.rules.specs.Within.{Accepted, Away, StateWithin}
+use Rattle.rules.specs.Within.{Accepted, Away, Reached, StateWithin, at-origin, by-start}
 use Rattle.rules.proofs.Accepting.{accepted}
 use Rattle.rules.proofs.Blocks.{getD-zeros, oldest-own}
-use Rattle.rules.proofs.Bounds.{origin-within, settled-within, step-within}
+use Rattle.rules.proofs.Bounds.{reached-within, settled-within, step-within}
 use Rattle.rules.proofs.Lists.{listed-join, upTo-away}
-use Rattle.rules.proofs.Unstarted.{Marks, Queue, Whole, arrivals-first, flowAt, front, oldest-from, oldest-least, open-waits, set-cases, started-all, started-more, started-none, upTo-whole, waits-open}
+use Rattle.rules.proofs.Unstarted.{LineWhole, Marks, Whole, arrivals-first, oldest-from, oldest-least, open-waits, set-cases, started-all, started-more, started-none, upTo-whole, waits-open}
 
 module _ (L : Load) where
   -- a start is made, and one block more is started
@@ -131,16 +132,19 @@ module _ (L : Load) where
             record { place = o .place; arrived = o .arrived; own = o .own; left = kept };
       }
 
+      pub moved-whole : LineWhole L (k + 1) (InTurn t) moved (c .line)
+      moved-whole = (moved-marks, moved-queue)
+
       after-whole : (gate : List ℕ) (r : Row) → r .block ≡ block → let s = after L c t gate r in Whole L (k + 1) (s .mode) (s .core)
       unfolding after spent state
-      after-whole gate r e = upTo-whole L (k + 1) _ _ _ (rw e (moved-marks, moved-queue))
+      after-whole gate r e = upTo-whole L (k + 1) _ _ _ (rw e moved-whole)
 
     next-in-turn : (t : Turn) (c : Core) → Whole L k (InTurn t) c → Away (L .counts .flows) (InTurn t) (c .line .wait) → waits L c (t .flow) ≡ true → StartsAt k (state (InTurn t) c)
     unfolding further rowOf started state where-waits
     next-in-turn t c w away waiting = record { start = further L c t; is = rw waiting refl; whole = after-whole t c w away waiting (c .gate) _ refl }
 
     -- a held flow's turn begins
-    turn-begins : (h : HeldFlow) (c′ c : Core) → Whole L k (Holds h) c → Whole L k (InTurn (turnOf h c′)) c
+    pub turn-begins : (h : HeldFlow) (c′ c : Core) → Whole L k (Holds h) c → Whole L k (InTurn (turnOf h c′)) c
     unfolding listed turnOf
     turn-begins h c′ c w = (w .0, record { placed = w .1 .placed; owes = λ f e. w .1 .owes f (rw e (or-true (eqb (h .flow) f))) })
 
@@ -208,6 +212,10 @@ module _ (L : Load) where
           (λ _. ready-readied (rejoined c (t .flow) (t .spent - t .allowance)) (turn-rejoins k t c w (t .spent - t .allowance) waiting)))
           (λ ends. ready-readied c (turn-leaves k t c w ends))
 
+      pub settled-whole : (s : State) → Whole L k (s .mode) (s .core) → let r = settled L s in Whole L k (r .mode) (r .core)
+      unfolding settled state
+      settled-whole s w = ready-tested (s .mode) (s .core) w .0
+
       next-start : (s : State) → Whole L k (s .mode) (s .core) → StateWithin L k s → StartsAt k (settled L s)
       unfolding settled state
       next-start s w v = let r = ready-tested (s .mode) (s .core) w in next-ready _ _ (r .0) (r .1) (settled-within L ok k s v .away)
@@ -236,6 +244,16 @@ module _ (L : Load) where
     record { placed = λ i h left. absurd (omega arith); owes = λ f e. absurd (true≢false (sym e)) },
   )
 
+module _ (L : Load) (ok : Accepted L) where
+  -- the states of a plan
+  pub reached-whole : {k : ℕ} {s : State} → Reached L k s → k ≤ L .counts .blocks → Whole L k (s .mode) (s .core)
+  reached-whole at-origin h = origin-whole L
+  reached-whole (by-start r e) h = step-whole L ok _ _ _ (omega arith) (reached-whole r (omega arith)) (reached-within L ok r) e
+
+  -- as many rows are to come as there are blocks
+  pub reached-rows : {k : ℕ} {s : State} → Reached L k s → (n : ℕ) → k + n ≤ L .counts .blocks → length (run L n s) ≡ n
+  reached-rows {k} {s} r n h = run-whole L ok n k s (reached-whole r (omega arith)) (reached-within L ok r) h
+
 summary-blocks : (stages : ℕ) (s : Summary) (rs : List Row) → summary stages s rs .blocks ≡ s .blocks + length rs
 unfolding counted summary
 summary-blocks stages s [] = omega arith
@@ -247,7 +265,7 @@ module _ (c : Counts) (n : ℕ) (table : List ℕ) (flowRecords rowWords : ℕ) 
   plan-length =
       let L = loadOf c table in
       let ok = accepted c n table flowRecords rowWords e .0 in
-      run-whole L ok (min n (c .blocks)) 0 (origin L) (origin-whole L) (origin-within L ok) (omega arith)
+      reached-rows L ok at-origin (min n (c .blocks)) (omega arith)
 
   -- the answer counts as many
   pub plan-blocks : summary (c .stages) none (plan (loadOf c table) n) .blocks ≡ min n (c .blocks)

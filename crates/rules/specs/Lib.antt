@@ -9,5 +9,6 @@ pub mod Load
 pub mod Plan
 pub mod Rows
 pub mod Stages
+pub mod Unstarted
 pub mod Waiting
 pub mod Within

@@ -7,10 +7,12 @@ ghost use Rattle.rules.specs.Plan.{origin as Plan·origin};
 ghost use Rattle.rules.specs.Within.{Accepted};
 ghost use Rattle.waiting.specs.Entries.{entries};
 ghost use Rattle.arrivals.specs.State.{stateOf};
+ghost use Rattle.queues.specs.Queues.{Follows};
 ghost use Rattle.start.specs.Next.{atFirst};
 use arrivals::state::Core;
 use arrivals::state::Planner;
 use load::counts::Counts;
+use queues::Storage as Queues;
 use rules::mode::Mode;
 use rules::round::Round;
 use rules::stages::Span;
@@ -47,11 +49,12 @@ fn nothing() -> Core
 }
 
 // The planner at tick 0, with the arrivals of that tick.
-pub fn origin(counts: Counts, blocks: &[u32], list: &mut Storage) -> Planner
+pub fn origin(counts: Counts, blocks: &[u32], list: &mut Storage, queues: &Queues) -> Planner
     requires { ⌜ Accepted (loadOf counts (now blocks)) × (entries (now list) ≡ []) ⌝ }
+    requires { ⌜ Follows (loadOf counts (now blocks)) (replicate 64 0) (now queues) ⌝ }
     ensures { λ r. ⌜ stateOf r (now (list .exit)) (replicate 64 0) (replicate 64 0) ≡ Plan·origin (loadOf counts (now (blocks .entry))) ⌝ }
 {
-    let core = arrivals::up_to(counts, blocks, Mode::Idle, 0, nothing(), list);
+    let core = arrivals::up_to(counts, blocks, Mode::Idle, 0, nothing(), list, queues);
     Planner {
         mode: Mode::Idle,
         core,

@@ -1,19 +1,17 @@
 -- Laws of the entries in their storage: one behind the other from the head's place on, and round. Only the proofs of this crate's
 -- functions use them.
 use Prim.Native.Nat.{ℕ, zero, suc, _+_, _-_, _*_, _/_, _≤_, _<_}
-use mathlib.Core.Bool.{false, _||_}
 use mathlib.Core.List.{List, [], _∷_, _++_}
 use mathlib.Core.Path.{_≡_, refl, ap, sym, _∙_}
-use native.Mathlib.Nat.{add-zero, sub-zero}
+use native.Mathlib.Nat.{add-zero}
 use native.Mathlib.Numerals.{add-one, sub-one}
 use native.Mathlib.Omega.{arith}
 use borrow.Author.Tests.{ltb-false, ltb-true}
-use lib.Dec.{eqb, ltb}
+use lib.Dec.{ltb}
 use lib.ListN.{length, getD, set, length-set}
 use lib.Seq.{getD-set-same, getD-set-other}
 use Rattle.load.proofs.Cases.{cases}
 use Rattle.rules.specs.declared.entry.Entry.{Entry}
-use Rattle.rules.specs.Waiting.{listed}
 use Rattle.waiting.specs.declared.Head.the-variants.{Flow}
 use Rattle.waiting.specs.Entries.{count, entries, entryAt, from, headOf, headPlace, most, restOf, placeOf, size}
 
@@ -31,26 +29,6 @@ from-one : (k n : ℕ) (s : List ℕ) → 0 < k → from k n s ≡ entryAt (plac
 unfolding from
 from-one zero n s h = absurd (omega arith)
 from-one (suc k) n s h = rw sub-one
-
--- Of k entries from n on the first i are seen. At first the others are all there are; one of them is at hand, and the rest follow it; at
--- the end there is none.
-pub listed-all : (f k n : ℕ) (s : List ℕ) → k ≡ length (entries s) → n ≡ headPlace s → listed f (from (k - 0) (n + 0) s) ≡ listed f (entries s)
-unfolding entries
-listed-all f k n s all head = rw (sub-zero, add-zero, head, all, length-entries s)
-
-pub listed-step : (f k n i : ℕ) (s : List ℕ) → i < k
-    → listed f (from (k - i) (n + i) s) ≡ eqb (getD s (2 * placeOf (n + i)) 0) f || listed f (from (k - (i + 1)) (n + (i + 1)) s)
-unfolding listed
-listed-step f k n i s h =
-    let fewer : k - i - 1 ≡ k - (i + 1) = omega arith in
-    let next : n + i + 1 ≡ n + (i + 1) = omega arith in
-    rw (from-one (k - i) (n + i) s (omega arith), fewer, next)
-
-pub listed-none : (f k n i : ℕ) (s : List ℕ) → k ≤ i → listed f (from (k - i) n s) ≡ false
-unfolding from listed
-listed-none f k n i s h =
-    let none : k - i ≡ 0 = omega arith in
-    rw none
 
 -- the i-th place after the next one
 shift : (n i : ℕ) → n + 1 + i ≡ n + suc i

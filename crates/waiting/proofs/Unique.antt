@@ -6,7 +6,6 @@ use Rattle.load.proofs.Once.{OneAnswer, OneExit, OneValue}
 use Rattle.rules.specs.declared.entry.Entry.{Entry}
 use Rattle.waiting.specs.Entries.{entries}
 use Rattle.waiting.proofs.empty.Reads as empty
-use Rattle.waiting.proofs.has.Reads as has
 use Rattle.waiting.proofs.join.Reads as join
 use Rattle.waiting.proofs.length.Reads as length
 use Rattle.waiting.proofs.take.Reads as take
@@ -16,9 +15,6 @@ empty-once κs a r r′ s s′ p q = p ∙ sym q
 
 pub length-once : OneAnswer length.Post
 length-once κs a r r′ s s′ p q = p ∙ sym q
-
-pub has-once : OneAnswer has.Post
-has-once κs a r r′ s s′ p q = p ∙ sym q
 
 pub join-leaves-once : OneExit join.Post {A = List Entry} (λ κs s. entries (now (s .0)))
 join-leaves-once κs a r r′ s s′ p q = p ∙ sym q

@@ -2,9 +2,7 @@
 // abstract list of entries alone, so nobody outside depends on where an entry lies or how the entries are counted.
 ghost use mathlib.Core.Path.{_≡_};
 ghost use mathlib.Core.List.{[], _∷_, _++_};
-ghost use Prim.Native.Nat.{_<_};
 ghost use lib.ListN.{length};
-ghost use Rattle.rules.specs.Waiting.{listed};
 ghost use Rattle.waiting.specs.Entries.{entries, Fits, headOf, headPlace, restOf, Room};
 use rules::entry::Entry;
 
@@ -42,24 +40,6 @@ fn head_place(list: &Storage) -> usize
     ensures { λ r. ⌜ r ≡ headPlace (now (list .entry)) ⌝ }
 {
     list[HEAD] as usize % PLACES
-}
-
-// Whether a flow is listed.
-pub fn has(list: &Storage, flow: usize) -> bool
-    requires { ⌜ Fits (entries (now list)) ⌝ }
-    ensures { λ r. ⌜ r ≡ listed flow (entries (now (list .entry))) ⌝ }
-{
-    let count = length(list);
-    let head = head_place(list);
-    let mut seen = 0;
-    while seen < count {
-        let place = (head + seen) % PLACES;
-        if list[2 * place] as usize == flow {
-            return true;
-        }
-        seen += 1;
-    }
-    false
 }
 
 // An entry joins at the tail, which moves on by one.

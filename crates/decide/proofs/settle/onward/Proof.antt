@@ -10,7 +10,9 @@ enum-told : tie.Need-enum-told
 enum-told c = search needs
 
 ready-requires : tie.Need-ready-requires
-ready-requires c κs = search needs
+ready-requires c κs =
+    let k = c .before .before .before .before .before in
+    (k .pre .0, rw (c .before .enum-told .given .1) at (k .pre .1))
 
 enum-told-2 : tie.Need-enum-told-2
 enum-told-2 c = search needs

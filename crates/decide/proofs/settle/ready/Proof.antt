@@ -37,7 +37,7 @@ take-head-requires c κs =
     let k = c .before .before .before .before .before in
     let e = k .before .before .before in
     let none = head-empty (k .take .ensures .0) (k .take .ensures .1) (c .before .before .before .enum-told .given .1) in
-    let takes = woken-takes _ (e .pre .0) (e .args .core) (k .take .last .0) (rw (none .1 ∙ sym (none .0)) (e .pre .1)) _ _ (c .before .wake .ensures) in
+    let takes = woken-takes _ (e .pre .0) (e .args .queues .now) (e .args .core) (k .take .last .0) (rw (none .1 ∙ sym (none .0)) (e .pre .1)) _ _ (c .before .wake .ensures) in
     (omega (arith, lists-few (takes .stands .lists), e .pre .0 .flows), takes .number)
 
 returns : tie.Need-returns

@@ -14,14 +14,14 @@ onward-requires : tie.Need-onward-requires
 onward-requires c κs =
     let k = c .before in
     let e = k .before .before .before in
-    (e .pre .0, tested-takes _ (e .pre .0) _ _ (e .pre .1 .takes) _ (e .args .from .now) _ _ (e .pre .1 .away) (k .tested .ensures))
+    (e .pre .0, tested-takes _ (e .pre .0) _ _ _ _ (e .pre .1 .takes) _ _ (e .pre .1 .away) (k .tested .ensures))
 
 returns : tie.Need-returns
 unfolding settled
-returns c = λ gate.
+returns c = λ from gate follows.
     let a = c .before .before .before .before .before .args in
-    c .onward .ensures (a .from .now) gate
-    ∙ ap (λ (s : State). onward (loadOf (a .counts) (a .blocks .now)) (s .mode) (s .core)) (c .before .before .tested .ensures gate)
+    c .onward .ensures from gate
+    ∙ ap (λ (s : State). onward (loadOf (a .counts) (a .blocks .now)) (s .mode) (s .core)) (c .before .before .tested .ensures from gate follows)
 
 pub settle-spec : {M : Type 1} → statement M
 settle-spec = tie.close (tie.spec tested-requires onward-requires returns)

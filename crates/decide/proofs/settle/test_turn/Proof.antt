@@ -3,40 +3,38 @@ use mathlib.Core.Path.{ap, sym, _∙_}
 use native.Mathlib.Omega.{arith}
 use borrow.Author.Needs.{needs}
 use Rattle.rules.specs.declared.mode.Mode.the-variants.{Idle}
-use Rattle.rules.specs.Plan.{oldest, state}
+use Rattle.rules.specs.Plan.{state}
 use Rattle.rules.specs.Within.{Away}
 use Rattle.rules.proofs.Lists.{lists-room}
 use Rattle.decide.proofs.Deciding.{tested-goes-on, tested-leaves, tested-rejoins}
 use Rattle.decide.proofs.settle.test_turn.Statement.{statement}
 use Rattle.decide.proofs.settle.test_turn.Tie as tie
 
-mul-oldest : tie.Need-mul-oldest
-unfolding Away
-mul-oldest c = search needs
-
-element-copy-out-oldest : tie.Need-element-copy-out-oldest
-unfolding Away
-element-copy-out-oldest c = search needs
-
 oldest-requires : tie.Need-oldest-requires
+unfolding Away
 oldest-requires c κs =
-    let k = c .before .before in
-    omega (arith, k .pre .0 .room, k .pre .1 .0 .arrived)
+    let k = c .before in
+    omega (arith, k .pre .1 .1 .0, k .pre .0 .flows)
 
 returns : tie.Need-returns
-unfolding oldest state
-returns c = λ gate. sym (tested-leaves _ _ _ _ (c .before .oldest .ensures) (c .if1 .taken))
+unfolding Away state
+returns c = λ from gate follows.
+    let k = c .before .before .before in
+    sym (tested-leaves _ _ _ _ follows (k .pre .1 .0 .arrived) (omega (arith, k .pre .1 .1 .0, k .pre .0 .flows)) _ (c .before .oldest .ensures) (c .if1 .taken))
 
 returns-2 : tie.Need-returns-2
-unfolding oldest state
-returns-2 c = λ gate. sym (tested-goes-on _ _ _ _ (c .before .before .before .oldest .ensures) (c .before .before .if1 .left) (omega (arith, c .if2 .taken)))
+unfolding Away state
+returns-2 c = λ from gate follows.
+    let k = c .before .before .before .before .before in
+    sym (tested-goes-on _ _ _ _ follows (k .pre .1 .0 .arrived) (omega (arith, k .pre .1 .1 .0, k .pre .0 .flows)) _ (c .before .before .before .oldest .ensures) (c .before .before .if1 .left) (omega (arith, c .if2 .taken)))
 
 returns-3 : tie.Need-returns-3
-unfolding oldest state
-returns-3 c = λ gate.
-    let k = c .before .before .before .before .before .before in
-    ap (state Idle) (c .rejoin .ensures (k .before .before .before .args .from .now) gate)
-    ∙ sym (tested-rejoins _ _ _ _ (k .oldest .ensures) (c .before .before .before .before .before .if1 .left) (omega (arith, c .before .before .before .if2 .left)))
+unfolding Away state
+returns-3 c = λ from gate follows.
+    let o = c .before .before .before .before .before .before in
+    let k = o .before .before in
+    ap (state Idle) (c .rejoin .ensures from gate)
+    ∙ sym (tested-rejoins _ _ _ _ follows (k .pre .1 .0 .arrived) (omega (arith, k .pre .1 .1 .0, k .pre .0 .flows)) _ (o .oldest .ensures) (c .before .before .before .before .before .if1 .left) (omega (arith, c .before .before .before .if2 .left)))
 
 sub-excess : tie.Need-sub-excess
 sub-excess c = search needs
@@ -44,18 +42,8 @@ sub-excess c = search needs
 rejoin-requires : tie.Need-rejoin-requires
 unfolding Away
 rejoin-requires c κs =
-    let k = c .before .before .before .before .before .before .before .before in
+    let k = c .before .before .before .before .before .before .before in
     omega (arith, lists-room _ (k .pre .1 .0 .lists) (k .pre .1 .1 .0) (k .pre .1 .1 .1), k .pre .0 .flows)
 
 pub test-turn-spec : {M : Type 1} → statement M
-test-turn-spec =
-    tie.close
-    (tie.spec
-    mul-oldest
-    element-copy-out-oldest
-    oldest-requires
-    returns
-    returns-2
-    sub-excess
-    rejoin-requires
-    returns-3)
+test-turn-spec = tie.close (tie.spec oldest-requires returns returns-2 sub-excess rejoin-requires returns-3)

@@ -18,18 +18,19 @@ enum-known-mode c = search needs
 test-turn-requires : tie.Need-test-turn-requires
 test-turn-requires c κs =
     let k = c .before .before .before .before .before .before in
-    (k .pre .0, (k .pre .1 .takes .stands, rw (c .before .before .mode .given .1) at (k .pre .1 .away)))
+    let turn = c .before .before .mode .given .1 in
+    (k .pre .0, (rw turn at (k .pre .1 .takes .stands), rw turn at (k .pre .1 .away)))
 
 returns : tie.Need-returns
 unfolding state
-returns c = λ gate. sym (tested-idle _ _ _ (c .enum-told .given .1))
+returns c = λ from gate _. sym (tested-idle _ _ _ (c .enum-told .given .1))
 
 returns-2 : tie.Need-returns-2
 unfolding state
-returns-2 c = λ gate. sym (tested-held _ _ _ _ (c .enum-told2 .given .1))
+returns-2 c = λ from gate _. sym (tested-held _ _ _ _ (c .enum-told2 .given .1))
 
 returns-3 : tie.Need-returns-3
-returns-3 c = λ gate. c .test-turn .ensures gate ∙ sym (tested-turn _ _ _ _ (c .before .before .before .mode .given .1))
+returns-3 c = λ from gate follows. c .test-turn .ensures from gate follows ∙ sym (tested-turn _ _ _ _ (c .before .before .before .mode .given .1))
 
 pub tested-spec : {M : Type 1} → statement M
 tested-spec =

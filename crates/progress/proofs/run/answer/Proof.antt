@@ -15,9 +15,12 @@ returns c = rw (c .before .verdict .given .1) refl
 enum-told : tie.Need-enum-told
 enum-told c = search needs
 
+summary-requires : tie.Need-summary-requires
+summary-requires c κs = search needs
+
 returns-2 : tie.Need-returns-2
 unfolding answered
-returns-2 c = rw (c .before .before .enum-told .given .1) refl
+returns-2 c = rw (c .summary .ensures, c .before .before .enum-told .given .1) refl
 
 pub answer-spec : {M : Type 1} → statement M
-answer-spec = tie.close (tie.spec enum-known-verdict returns enum-told returns-2)
+answer-spec = tie.close (tie.spec enum-known-verdict returns enum-told summary-requires returns-2)

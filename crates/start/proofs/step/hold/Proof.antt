@@ -22,17 +22,20 @@ sub-first : tie.Need-sub-first
 sub-first c = search needs
 
 first-requires : tie.Need-first-requires
+unfolding turnOf
 first-requires c κs =
     let k = c .before .before .before in
-    let e = k .before .before .before .before .before in
-    (e .pre .0, (held-starts _ (e .pre .0) _ _ _ _ _ _ (omega (arith, k .before .before .later .ensures, e .pre .1 .2 .2, e .pre .1 .2 .3)) (e .pre .1 .0) (k .hold-until .ensures), (e .pre .1 .2 .0, e .pre .1 .2 .1)))
+    let e = k .before .before .before .before .before .before in
+    let p = e .pre .1 in
+    let a = e .args in
+    (e .pre .0, (held-starts _ (e .pre .0) (a .held) _ (a .queues .now) (a .core) (a .list .now) _ _ (omega (arith, k .before .before .before .later .ensures, p .2 .2, p .2 .3)) (p .0) (k .hold-until .ensures), (p .2 .0, p .2 .1)))
 
 returns : tie.Need-returns
 unfolding started heldUntil turnOf
-returns c =
+returns c = λ from follows.
     let k = c .before .before .before .before in
-    let a = k .before .before .before .before .before .args in
-    rw (← (k .before .before .later .ensures), ← (k .hold-until .ensures (a .from .now) (a .gate .now))) (c .first .ensures)
+    let a = k .before .before .before .before .before .before .args in
+    rw (← (k .before .before .before .later .ensures), ← (k .hold-until .ensures from (a .gate .now))) (c .first .ensures from follows)
 
 pub hold-spec : {M : Type 1} → statement M
 hold-spec =

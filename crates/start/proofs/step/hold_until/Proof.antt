@@ -10,9 +10,9 @@ use Rattle.start.proofs.step.hold_until.Tie as tie
 up-to-requires : tie.Need-up-to-requires
 up-to-requires c κs = search needs
 
-add-t12 : tie.Need-add-t12
+add-t13 : tie.Need-add-t13
 unfolding upTo
-add-t12 c =
+add-t13 c =
     let k = c .before .before .before in
     let same = ap (λ (x : Core). x .turns) (k .up-to .ensures [] []) in
     omega (arith, same, k .before .before .before .pre .1 .1)
@@ -22,4 +22,4 @@ unfolding begun
 returns c = λ from gate. ap begun (c .before .before .before .up-to .ensures from gate)
 
 pub hold-until-spec : {M : Type 1} → statement M
-hold-until-spec = tie.close (tie.spec up-to-requires add-t12 returns)
+hold-until-spec = tie.close (tie.spec up-to-requires add-t13 returns)

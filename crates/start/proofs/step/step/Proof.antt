@@ -1,18 +1,26 @@
 -- `start::step::step` meets its contract: the settled state's mode picks the start, and its bounds are those that each start asks.
-use mathlib.Core.Path.{ap, sym, _∙_}
+use Prim.Native.Nat.{ℕ}
+use mathlib.Core.List.{List}
+use mathlib.Core.Option.{Option}
+use mathlib.Core.Path.{_≡_, ap, subst, sym, _∙_}
 use borrow.Author.Needs.{needs}
-use Rattle.rules.specs.Load.{loadOf}
-use Rattle.rules.specs.Plan.{started, State, step}
-use Rattle.start.specs.Next.{nextOf}
+use Rattle.rules.specs.Load.{Load, loadOf}
+use Rattle.rules.specs.Plan.{Started, started, State, step}
 use Rattle.arrivals.specs.State.{stateOf}
-use Rattle.start.proofs.Reaching.{few-turns, held-fits, settled-steps, settles, started-at, started-idle, starting, turn-fits}
+use Rattle.start.specs.declared.step.Next.{Next}
+use Rattle.start.specs.Next.{Answers}
+use Rattle.start.proofs.Reaching.{few-turns, held-fits, settled-at, settles, started-at, started-idle, starting, steps-at, turn-fits}
 use Rattle.start.proofs.step.step.Statement.{statement}
 use Rattle.start.proofs.step.step.Tie as tie
 
+-- an answer is one of the start that it is, however that came about
+answers-as : (L : Load) (n : Next) (list queues gate from : List ℕ) {o o′ : Option Started} → o ≡ o′ → Answers L n list queues gate from o → Answers L n list queues gate from o′
+answers-as L n list queues gate from e = subst (λ (x : Option Started). Answers L n list queues gate from x) e
+
 settle-requires : tie.Need-settle-requires
 settle-requires c κs =
-    let k = c .before .before .before in
-    (k .pre .0, settles _ _ _ _ _ _ (k .pre .1))
+    let k = c .before .before .before .pre in
+    (k .0, settles _ _ (k .0) _ _ _ _ _ (steps-at _ (k .0) _ _ _ _ (k .1)))
 
 enum-told : tie.Need-enum-told
 enum-told c = search needs
@@ -25,8 +33,10 @@ hold-requires c κs =
     let k = c .before .before .before .before .before .before .before in
     let e = k .before .before .before .before in
     let a = e .args in
-    let reached = settled-steps _ (e .pre .0) _ (stateOf (k .settle .result) _ (a .from .now) (a .gate .now)) (e .pre .1) (k .settle .ensures (a .gate .now)) in
-    (e .pre .0, (starting _ _ _ _ _ _ reached, few-turns _ _ _ _ _ _ reached, held-fits _ _ _ _ _ _ reached (e .pre .0) _ (c .before .before .before .before .mode .given .1)))
+    let p = e .pre .1 in
+    let mode = c .before .before .before .before .mode .given .1 in
+    let reached = settled-at _ (e .pre .0) _ _ (stateOf (k .settle .result) _ (p .from) (a .gate .now)) (steps-at _ (e .pre .0) _ _ _ _ p) (k .settle .ensures (p .from) (a .gate .now) (p .follows)) (p .follows) in
+    (e .pre .0, (rw mode at (starting _ _ (e .pre .0) _ _ _ _ _ reached), few-turns _ _ (e .pre .0) _ _ _ _ _ reached, held-fits _ _ (e .pre .0) _ _ _ _ _ reached _ mode))
 
 enum-known-mode-2 : tie.Need-enum-known-mode-2
 enum-known-mode-2 c = search needs
@@ -36,34 +46,40 @@ further-requires c κs =
     let k = c .before .before .before .before .before .before in
     let e = k .before .before .before .before in
     let a = e .args in
-    let reached = settled-steps _ (e .pre .0) _ (stateOf (k .settle .result) _ (a .from .now) (a .gate .now)) (e .pre .1) (k .settle .ensures (a .gate .now)) in
-    (e .pre .0, (starting _ _ _ _ _ _ reached, turn-fits _ _ _ _ _ _ reached (e .pre .0) _ (c .before .before .before .mode2 .given .1)))
+    let p = e .pre .1 in
+    let mode = c .before .before .before .mode2 .given .1 in
+    let reached = settled-at _ (e .pre .0) _ _ (stateOf (k .settle .result) _ (p .from) (a .gate .now)) (steps-at _ (e .pre .0) _ _ _ _ p) (k .settle .ensures (p .from) (a .gate .now) (p .follows)) (p .follows) in
+    (e .pre .0, (rw mode at (starting _ _ (e .pre .0) _ _ _ _ _ reached), turn-fits _ _ (e .pre .0) _ _ _ _ _ reached _ mode))
 
 returns : tie.Need-returns
-unfolding step nextOf
-returns c =
+unfolding step Answers
+returns c = λ from follows.
     let k = c .before .before .before in
     let a = k .before .before .before .before .args in
-    sym (started-idle _ _ _ (c .enum-told .given .1))
-    ∙ ap (λ (s : State). started (loadOf (a .counts) (a .blocks .now)) (s .mode) (s .core)) (k .settle .ensures (a .gate .now))
+    sym (ap (λ (s : State). started (loadOf (a .counts) (a .blocks .now)) (s .mode) (s .core)) (k .settle .ensures from (a .gate .now) follows))
+    ∙ started-idle _ _ _ (c .enum-told .given .1)
 
 returns-2 : tie.Need-returns-2
 unfolding step
-returns-2 c =
+returns-2 c = λ from follows.
     let k = c .before .before .before .before .before .before .before .before in
     let a = k .before .before .before .before .args in
-    c .hold .ensures
-    ∙ sym (started-at _ _ _ _ (c .before .before .before .before .before .mode .given .1))
-    ∙ ap (λ (s : State). started (loadOf (a .counts) (a .blocks .now)) (s .mode) (s .core)) (k .settle .ensures (a .gate .now))
+    let L = loadOf (a .counts) (a .blocks .now) in
+    let is =
+    sym (started-at L _ _ _ (c .before .before .before .before .before .mode .given .1))
+    ∙ ap (λ (s : State). started L (s .mode) (s .core)) (k .settle .ensures from (a .gate .now) follows) in
+    answers-as _ _ _ _ _ _ is (c .hold .ensures from follows)
 
 returns-3 : tie.Need-returns-3
 unfolding step
-returns-3 c =
+returns-3 c = λ from follows.
     let k = c .before .before .before .before .before .before .before in
     let a = k .before .before .before .before .args in
-    c .further .ensures (a .gate .now)
-    ∙ sym (started-at _ _ _ _ (c .before .before .before .before .mode2 .given .1))
-    ∙ ap (λ (s : State). started (loadOf (a .counts) (a .blocks .now)) (s .mode) (s .core)) (k .settle .ensures (a .gate .now))
+    let L = loadOf (a .counts) (a .blocks .now) in
+    let is =
+    sym (started-at L _ _ _ (c .before .before .before .before .mode2 .given .1))
+    ∙ ap (λ (s : State). started L (s .mode) (s .core)) (k .settle .ensures from (a .gate .now) follows) in
+    answers-as _ _ _ _ _ _ is (c .further .ensures from (a .gate .now) follows)
 
 pub step-spec : {M : Type 1} → statement M
 step-spec =
