@@ -1,14 +1,14 @@
 -- What the arrivals ask still holds after them: they leave a list of flows of the load, none twice, and queues that tell which.
 use Prim.Native.Nat.{ℕ, _+_, _<_}
 use mathlib.Core.Bool.{or-true}
-use mathlib.Core.List.{List}
+use mathlib.Core.List.{List, _++_}
 use mathlib.Core.Path.{_≡_, refl, sym, ap, _∙_}
 use native.Mathlib.Omega.{arith}
 use Rattle.rules.specs.declared.entry.Entry.{Entry}
 use Rattle.rules.specs.declared.mode.Mode.{Mode}
 use Rattle.rules.specs.Load.{Load}
 use Rattle.rules.specs.Plan.{arrived, Core, upTo}
-use Rattle.rules.specs.Unstarted.{flowAt, held}
+use Rattle.rules.specs.Unstarted.{flowAt, front, held, Queue}
 use Rattle.rules.specs.Waiting.{listed, Lists}
 use Rattle.rules.specs.Within.{Accepted}
 use Rattle.rules.proofs.Lists.{arrived-lists, listed-append, upTo-keep}
@@ -30,6 +30,10 @@ module _ (L : Load) (m : Mode) (queues : List ℕ) where
     -- as the definition's laws have it; how many blocks are started, they count anew
     pub stands-whole : LineWhole L (startedOf L (s .from) (L .counts .blocks)) m (s .from) (record { next = next; wait = w })
     stands-whole = (record { long = s .follows .long; next-within = s .arrived; passed = s .passed; count = refl }, s .queue)
+
+    -- the same with another mode or another list, of which the queues tell too
+    pub stands-as : (m′ : Mode) (w′ : List Entry) → Lists (L .counts .flows) w′ → Queue L (front m′ ++ w′) (held m′ ++ w′) (s .from) next → Stands L m′ queues next w′
+    stands-as m′ w′ lists queue = record { arrived = s .arrived; lists = lists; from = s .from; follows = s .follows; passed = s .passed; queue = queue }
 
     pub stands-tells : (f : ℕ) → f < most → Tells m queues next w f
     stands-tells f below = record {

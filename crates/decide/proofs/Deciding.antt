@@ -11,6 +11,7 @@ use Rattle.rules.specs.declared.mode.Mode.the-variants.{Idle, InTurn}
 use Rattle.rules.specs.declared.mode.Turn.{Turn}
 use Rattle.rules.specs.Load.{Load, blockAt}
 use Rattle.rules.specs.Plan.{Core, Started, oldest, readied, rejoined, state, taken, tested, upTo, waits, where-waits, woken}
+use Rattle.rules.specs.Within.{Accepted, Away}
 use Rattle.queues.specs.Queues.{Follows, most, oldestIn}
 use Rattle.queues.proofs.Finding.{found, none-found}
 
@@ -35,6 +36,11 @@ module _ (L : Load) (c : Core) (queues : List ℕ) (follows : Follows L (c .from
   pub starts : (s : Started) → o < c .line .next → where-waits L c f s ≡ some s
   unfolding where-waits
   starts s h = rw (waits-for h)
+
+-- the flow in its turn is one of the load's
+pub turn-below : (L : Load) → Accepted L → (t : Turn) (w : List Entry) → Away (L .counts .flows) (InTurn t) w → t .flow < most
+unfolding Away
+turn-below L ok t w away = omega (arith, away .0, ok .flows)
 
 -- a turn is tested
 module _ (L : Load) (t : Turn) (c : Core) (queues : List ℕ) (follows : Follows L (c .from) queues) (within : c .line .next ≤ L .counts .blocks) (below : t .flow < most) (o : ℕ) (is : o ≡ oldestIn queues (t .flow)) where

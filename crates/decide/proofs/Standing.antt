@@ -21,7 +21,7 @@ use Rattle.arrivals.specs.declared.state.Core as code
 use Rattle.arrivals.specs.declared.state.Planner.{Planner}
 use Rattle.arrivals.specs.Room.{Stands}
 use Rattle.arrivals.specs.State.{BecomesBy, CoreBecomes, coreOf}
-use Rattle.arrivals.proofs.Standing.{stands-whole, upTo-stands}
+use Rattle.arrivals.proofs.Standing.{stands-as, stands-whole, upTo-stands}
 use Rattle.decide.specs.Room.{Takes}
 
 module _ (L : Load) (ok : Accepted L) (queues : List ℕ) where
@@ -43,18 +43,11 @@ module _ (L : Load) (ok : Accepted L) (queues : List ℕ) where
     at = coreOf c list (s .from) gate
 
     leaves : waits L at (t .flow) ≡ false → Stands L Idle queues (c .next) (entries list)
-    leaves ends = record { arrived = s .arrived; lists = s .lists; from = s .from; follows = s .follows; passed = s .passed; queue = turn-leaves L _ t at (stands-whole L (InTurn t) queues _ _ s) ends .1 }
+    leaves ends = stands-as L (InTurn t) queues _ _ s Idle _ (s .lists) (turn-leaves L _ t at (stands-whole L (InTurn t) queues _ _ s) ends .1)
 
     rejoins : (x : ℕ) → waits L at (t .flow) ≡ true → let r = rejoined at (t .flow) x in Stands L Idle queues (r .line .next) (r .line .wait)
     unfolding Away rejoined withLine withRound
-    rejoins x waiting = record {
-      arrived = s .arrived;
-      lists = lists-join _ (s .lists) (away .0) (away .1);
-      from = s .from;
-      follows = s .follows;
-      passed = s .passed;
-      queue = turn-rejoins L _ t at (stands-whole L (InTurn t) queues _ _ s) x waiting .1;
-    }
+    rejoins x waiting = stands-as L (InTurn t) queues _ _ s Idle _ (lists-join _ (s .lists) (away .0) (away .1)) (turn-rejoins L _ t at (stands-whole L (InTurn t) queues _ _ s) x waiting .1)
 
   tested-keeps : (m : Mode) (c : code.Core) (list gate : List ℕ) (s : Stands L m queues (c .next) (entries list)) → Away (L .counts .flows) m (entries list)
       → Keeps (c .round) (tested L m (coreOf c list (s .from) gate))

@@ -12,22 +12,21 @@ use Rattle.rules.specs.declared.mode.Mode.{Mode}
 use Rattle.rules.specs.declared.mode.Turn.{Turn}
 use Rattle.rules.specs.declared.stages.Way.{Way}
 use Rattle.rules.specs.Load.{Load, loadOf}
-use Rattle.rules.specs.Plan.{begun, Core, settled, started, spent, State, turnOf, upTo}
+use Rattle.rules.specs.Plan.{begun, Core, started, spent, State, turnOf, upTo}
 use Rattle.rules.specs.Within.{Accepted, Away, latest, ModeWithin, mostSpent, StateWithin, WayWithin}
 use Rattle.rules.proofs.Bounds.{reached-within, settled-within}
 use Rattle.rules.proofs.Lists.{upTo-away}
 use Rattle.rules.proofs.Unstarted.{Whole}
 use Rattle.rules.proofs.Whole.{moved-whole, reached-whole, settled-whole, turn-begins}
-use Rattle.queues.specs.Queues as Queues
 use Rattle.queues.specs.Queues.{advanced, Follows, oldestIn}
 use Rattle.queues.proofs.Linking.{follows-on}
 use Rattle.arrivals.specs.declared.state.Core as code
 use Rattle.arrivals.specs.declared.state.Planner.{Planner}
 use Rattle.arrivals.specs.Room.{Stands}
-use Rattle.arrivals.specs.State.{CoreBecomes, coreOf, stateOf}
-use Rattle.arrivals.proofs.Standing.{stands-whole, upTo-stands, whole-stands}
+use Rattle.arrivals.specs.State.{BecomesBy, CoreBecomes, coreOf, settledIn, stateOf}
+use Rattle.arrivals.proofs.Standing.{stands-as, stands-whole, upTo-stands, whole-stands}
 use Rattle.decide.specs.Room.{Settles}
-use Rattle.decide.proofs.Deciding.{the-oldest, waits-for}
+use Rattle.decide.proofs.Deciding.{the-oldest, turn-below, waits-for}
 use Rattle.waiting.specs.Entries.{entries}
 use Rattle.start.specs.Starting.{HeldFits, most, Starts, Steps, TurnFits}
 
@@ -49,14 +48,18 @@ steps-at L ok p list queues gate s = record {
 }
 
 -- so is the settled state
-pub settled-at : (L : Load) → Accepted L → (queues : List ℕ) (s r : State) → At L queues s → r ≡ settled L s → Follows L (r .core .from) queues → At L queues r
-settled-at L ok queues s r w e follows = record {
-  starts = w .starts;
-  more = w .more;
-  within = rw e (settled-within L ok (w .starts) s (w .within));
-  whole = rw e (settled-whole L ok (w .starts) (w .more) s (w .whole));
-  follows = follows;
-}
+pub settled-at : (L : Load) → Accepted L → (p : Planner) (list queues gate : List ℕ) (s : Steps L p list queues gate) (q : Planner) (list′ : List ℕ)
+    → BecomesBy L queues (settledIn L (p .mode)) (p .core) list q list′ → At L queues (stateOf q list′ (s .from) gate)
+settled-at L ok p list queues gate s q list′ becomes =
+    let e = becomes (s .from) gate (s .follows) in
+    let w = steps-at L ok p list queues gate s in
+    record {
+      starts = w .starts;
+      more = w .more;
+      within = rw e (settled-within L ok (w .starts) _ (w .within));
+      whole = subst (λ (x : State). Whole L (w .starts) (x .mode) (x .core)) (sym e) (settled-whole L ok (w .starts) (w .more) _ (w .whole));
+      follows = s .follows;
+    }
 
 way-within : (w : Way) (k : ℕ) → k ≤ 1024 → WayWithin w (latest k) → WayWithin w most
 unfolding latest
@@ -117,7 +120,7 @@ held-starts L ok h t queues c list c′ list′ in-time s e =
     record {
       stands =
           subst (λ (x : Core). Stands L (InTurn (turnOf h (coreOf c list [] []))) queues (x .line .next) (x .line .wait)) (sym whole)
-          (record { arrived = u .arrived; lists = u .lists; from = u .from; follows = u .follows; passed = u .passed; queue = begins });
+          (stands-as L (Holds h) queues _ _ u _ _ (u .lists) begins);
       away = subst (λ (x : Core). Away (L .counts .flows) (InTurn (turnOf h (coreOf c list [] []))) (x .line .wait)) (sym whole) (upTo-away L ok (Holds h) t (coreOf c list [] []) (s .stands .arrived) (s .away));
       timed = record { clock = rw (ap (λ (x : Core). x .clock) whole) in-time; way = rw (ap (λ (x : Core). x .way) whole) (s .timed .way) };
     }
@@ -129,7 +132,7 @@ unfolding Away spent
 moved-stands L ok t queues c list s b is waits x =
     let k = s .stands in
     let at = coreOf c list (k .from) [] in
-    let below : t .flow < Queues.most = omega (arith, ok .flows, s .away .0) in
+    let below = turn-below L ok t (entries list) (s .away) in
     let waiting = waits-for L at queues (k .follows) (k .arrived) (t .flow) below b is waits in
     let moved = rw (← (the-oldest L at queues (k .follows) (k .arrived) (t .flow) below b is waits)) at (moved-whole L ok _ t at (stands-whole L (InTurn t) queues _ _ k) (s .away) waiting) in
     record {

@@ -6,7 +6,6 @@ use mathlib.Core.Path.{_≡_, ap, subst, sym, _∙_}
 use borrow.Author.Needs.{needs}
 use Rattle.rules.specs.Load.{Load, loadOf}
 use Rattle.rules.specs.Plan.{Started, started, State, step}
-use Rattle.arrivals.specs.State.{stateOf}
 use Rattle.start.specs.declared.step.Next.{Next}
 use Rattle.start.specs.Next.{Answers}
 use Rattle.start.proofs.Reaching.{few-turns, held-fits, settled-at, settles, started-at, started-idle, starting, steps-at, turn-fits}
@@ -32,10 +31,8 @@ hold-requires : tie.Need-hold-requires
 hold-requires c κs =
     let k = c .before .before .before .before .before .before .before in
     let e = k .before .before .before .before in
-    let a = e .args in
-    let p = e .pre .1 in
     let mode = c .before .before .before .before .mode .given .1 in
-    let reached = settled-at _ (e .pre .0) _ _ (stateOf (k .settle .result) _ (p .from) (a .gate .now)) (steps-at _ (e .pre .0) _ _ _ _ p) (k .settle .ensures (p .from) (a .gate .now) (p .follows)) (p .follows) in
+    let reached = settled-at _ (e .pre .0) _ _ _ _ (e .pre .1) _ _ (k .settle .ensures) in
     (e .pre .0, (rw mode at (starting _ _ (e .pre .0) _ _ _ _ _ reached), few-turns _ _ (e .pre .0) _ _ _ _ _ reached, held-fits _ _ (e .pre .0) _ _ _ _ _ reached _ mode))
 
 enum-known-mode-2 : tie.Need-enum-known-mode-2
@@ -45,10 +42,8 @@ further-requires : tie.Need-further-requires
 further-requires c κs =
     let k = c .before .before .before .before .before .before in
     let e = k .before .before .before .before in
-    let a = e .args in
-    let p = e .pre .1 in
     let mode = c .before .before .before .mode2 .given .1 in
-    let reached = settled-at _ (e .pre .0) _ _ (stateOf (k .settle .result) _ (p .from) (a .gate .now)) (steps-at _ (e .pre .0) _ _ _ _ p) (k .settle .ensures (p .from) (a .gate .now) (p .follows)) (p .follows) in
+    let reached = settled-at _ (e .pre .0) _ _ _ _ (e .pre .1) _ _ (k .settle .ensures) in
     (e .pre .0, (rw mode at (starting _ _ (e .pre .0) _ _ _ _ _ reached), turn-fits _ _ (e .pre .0) _ _ _ _ _ reached _ mode))
 
 returns : tie.Need-returns
