@@ -35,7 +35,7 @@ fn short(
 }
 
 // Tests 8 to 11, block by block.
-pub fn test_blocks(counts: Counts, blocks: &[u32]) -> Verdict
+fn test_blocks(counts: Counts, blocks: &[u32]) -> Verdict
     requires { (counts.blocks ≤ 1024) × (6 * counts.blocks ≤ length blocks.now) }
     ensures { result ≡ blocks_verdict counts 0 counts.blocks blocks.now }
 {

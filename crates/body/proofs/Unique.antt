@@ -6,11 +6,7 @@ use mathlib.Core.Path.{sym, ◌∙◌}
 use Rattle.load.proofs.Once.{OneAnswer, OneExit, OneValue}
 use Rattle.body.proofs.table.fill.Reads as fill
 use Rattle.body.proofs.walk.body.Reads as body
-use Rattle.body.proofs.walk.flows.Reads as flows
 use Rattle.body.proofs.walk.own_name.Reads as own_name
-
-pub flows_once : OneAnswer flows.Post
-flows_once κs a r r' s s' p q = p ∙ sym q
 
 pub body_once : OneAnswer body.Post
 body_once κs a r r' s s' p q = p ∙ sym q

@@ -10,12 +10,12 @@ use load::refusal::Refusal;
 use records::record;
 use records::record::{Found, Walk};
 
-// The byte after so many flow records, which start at `from`.
-pub fn flows(file: &[u8], from: usize, count: usize) -> Walk
-    requires { from ≤ length file.now }
-    ensures { result ≡ walk_of (flow_records file.now count from) }
+// The byte after so many flow records, which start at byte 10.
+fn flows(file: &[u8], count: usize) -> Walk
+    requires { 10 ≤ length file.now }
+    ensures { result ≡ walk_of (flow_records file.now count 10) }
 {
-    let mut at = from;
+    let mut at = 10;
     let mut left = count;
     while 0 < left {
         match record::flow(&file[at..]) {
@@ -60,7 +60,7 @@ pub fn body(file: &[u8], counts: Counts) -> Walk
     requires { (counts.stages ≤ 4) × (10 ≤ length file.now) }
     ensures { result ≡ body_walk counts file.now }
 {
-    let flows_end = flows(file, 10, counts.flows);
+    let flows_end = flows(file, counts.flows);
     let Walk::At(from) = flows_end else {
         return flows_end;
     };
@@ -80,7 +80,7 @@ pub fn own_name(file: &[u8], flow: usize) -> &[u8]
     requires { 10 ≤ length file.now }
     ensures { IsPart file.entry (own_name_of file.now flow) result }
 {
-    let Walk::At(at) = flows(file, 10, flow) else {
+    let Walk::At(at) = flows(file, flow) else {
         return &file[..0];
     };
     let rest = &file[at..];

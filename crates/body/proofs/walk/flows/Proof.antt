@@ -13,10 +13,10 @@ use Rattle.body.proofs.walk.flows.Statement.{statement}
 use Rattle.body.proofs.walk.flows.Tie as tie
 
 abbrev invariant-loop : tie.invariant-loop
-invariant-loop file from count at₀ left₀ at left = (at ≤ length file) × (walk_of (flow_records file left at) ≡ walk_of (flow_records file count from))
+invariant-loop file count at₀ left₀ at left = (at ≤ length file) × (walk_of (flow_records file left at) ≡ walk_of (flow_records file count 10))
 
 abbrev decreases-loop : tie.decreases-loop
-decreases-loop file from count at₀ left₀ at left = left
+decreases-loop file count at₀ left₀ at left = left
 
 -- the record at the byte reached is read
 read : (c : tie.After-known-told2 invariant-loop decreases-loop) → let k = c.before.before.before.before.before.before in flow_record (drop k.loop.at k.before.before.args.file.now) ≡ At c.before.size.given.0.0
