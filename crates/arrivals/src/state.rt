@@ -5,7 +5,7 @@ use rules::stages::Way;
 
 // What goes on whatever the mode: the clock, how many blocks of the table have arrived, the round, the turns begun, and the way
 // of the block started last.
-#[derive(Drop)]
+#[derive(Clone, Copy)]
 pub struct Core {
     pub clock: u64,
     pub next: usize,
@@ -14,7 +14,7 @@ pub struct Core {
     pub way: Way,
 }
 
-#[derive(Drop)]
+#[derive(Clone, Copy)]
 pub struct Planner {
     pub mode: Mode,
     pub core: Core,

@@ -1,4 +1,5 @@
 // Runs the cases on standard input against the calls of loadfile and mr3, and writes a line for each.
+#![tactic(auto)]
 mod case;
 
 use cases::head;

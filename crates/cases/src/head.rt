@@ -4,7 +4,7 @@ ghost use Rattle.std.specs.Prelude.{◌≤◌, length};
 use libc::STDIN_FILENO;
 use records::bytes::four;
 
-#[derive(Drop)]
+#[derive(Clone, Copy)]
 pub enum Call {
     Sound,
     // The words of the block table that is lent.
@@ -14,14 +14,14 @@ pub enum Call {
     Plan,
 }
 
-#[derive(Drop)]
+#[derive(Clone, Copy)]
 pub struct Head {
     pub call: Call,
     pub standing: usize,
     pub file: usize,
 }
 
-#[derive(Drop)]
+#[derive(Clone, Copy)]
 pub enum Next {
     // The input ends between two cases.
     End,

@@ -1,5 +1,6 @@
 // What the battery's cases are made of: a case's head and parameters, the marks in the tables that it lends, and how the tables and
 // the plan call's answer are shown in its line.
+#![tactic(auto)]
 pub mod answer;
 pub mod head;
 pub mod parameters;

@@ -4,7 +4,7 @@ ghost use Rattle.std.specs.Prelude.{◌+◌, ◌*◌, ◌≤◌, length};
 use load::counts::Counts;
 use records::bytes::four;
 
-#[derive(Drop)]
+#[derive(Clone, Copy)]
 pub struct Parameters {
     pub limit: u64,
     pub counts: Counts,

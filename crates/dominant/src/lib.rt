@@ -1,11 +1,12 @@
 // The dominant time and stage of a block.
+#![tactic(auto)]
 ghost use Rattle.std.specs.Prelude.{cond, ◌≡◌, max, leb};
 ghost use Rattle.dominant.specs.Dominant.{dominant_time, dominant_stage};
 
 use load::block::Block;
 
 // A time, and the stage that has it.
-#[derive(Drop)]
+#[derive(Clone, Copy)]
 pub struct Peak {
     pub time: u32,
     pub stage: u32,

@@ -1,5 +1,6 @@
 // What a program prints is made in an array, a page, and written by one function. `at` is how many of the page's bytes are there.
 // A function that puts bytes behind them answers how many there are then.
+#![tactic(auto)]
 ghost use Rattle.std.specs.Prelude.{min, [], ◌∷◌, ◌≡◌, replicate};
 ghost use Rattle.io.specs.Digits.{last_digits};
 ghost use Rattle.line.specs.Numerals.{decimal_of, hex_of};

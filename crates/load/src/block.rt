@@ -3,7 +3,7 @@ ghost use Rattle.std.specs.Prelude.{◌≡◌, ◌++◌, ◌≤◌, length, drop
 ghost use Rattle.load.specs.Blocks.{block_of, words_of};
 
 // Times of stages that the load lacks are 0.
-#[derive(Drop)]
+#[derive(Clone, Copy)]
 pub struct Block {
     pub flow: u32,
     pub arrival: u32,

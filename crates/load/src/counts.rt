@@ -1,5 +1,5 @@
 // The three counts of a load.
-#[derive(Drop)]
+#[derive(Clone, Copy)]
 pub struct Counts {
     pub stages: usize,
     pub flows: usize,

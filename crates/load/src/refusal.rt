@@ -2,7 +2,7 @@
 ghost use Rattle.std.specs.Prelude.{◌≡◌};
 ghost use Rattle.load.specs.Refusals.{verdict_number};
 
-#[derive(Drop)]
+#[derive(Clone, Copy)]
 pub enum Refusal {
     // The file is empty, or its first byte isn't 1.
     Version,
@@ -28,7 +28,7 @@ pub enum Refusal {
     OutOfOrder,
 }
 
-#[derive(Drop)]
+#[derive(Clone, Copy)]
 pub enum Verdict {
     Accepted,
     Refused(Refusal),

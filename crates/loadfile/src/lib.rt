@@ -1,5 +1,6 @@
 // Load files of version 1: the soundness call, the reader and the name call. `specs/Layout.antt` says what the bytes mean
 // and in which order a file is refused; the three contracts go by that one definition.
+#![tactic(auto)]
 ghost use Rattle.std.specs.Prelude.{◌≡◌};
 ghost use Rattle.loadfile.specs.Calls.{Reads, Shows, soundness};
 
@@ -10,7 +11,7 @@ use records::record::Walk;
 use records::standing;
 
 // What the reader answers.
-#[derive(Drop)]
+#[derive(Clone, Copy)]
 pub enum Answer {
     Refused(Refusal),
     Read(Counts),

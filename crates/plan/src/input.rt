@@ -4,7 +4,7 @@ ghost use Rattle.plan.specs.Inputs.{Within};
 
 use libc::{STDERR_FILENO, STDIN_FILENO};
 
-#[derive(Drop)]
+#[derive(Clone, Copy)]
 pub enum Input {
     Bytes(usize),
     Failed,

@@ -1,4 +1,5 @@
 // Reads a load file from standard input, plans it and prints the plan.
+#![tactic(auto)]
 ghost use Rattle.std.specs.Prelude.{take, ◌≡◌};
 ghost use Rattle.listing.specs.Listing.{listing as Listing·listing};
 

@@ -1,4 +1,5 @@
 // The plan call in a case of the battery: the tables that are lent to it, and the call.
+#![tactic(auto)]
 ghost use Rattle.std.specs.Prelude.{◌≤◌};
 
 use cases::parameters::Parameters;

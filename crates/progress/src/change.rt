@@ -9,7 +9,7 @@ use rules::record::FlowRecord;
 use rules::row::Row;
 
 // What becomes of a flow's record: it is emptied, or a block is added to it, with the turns that it begins and its dominant time.
-#[derive(Drop)]
+#[derive(Clone, Copy)]
 pub struct Change {
     pub flow: usize,
     pub empty: bool,

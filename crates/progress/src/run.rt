@@ -21,7 +21,7 @@ use start::{origin, step};
 use waiting::Storage;
 
 // The planner, the next free word of the row table, and how many turns were held and for how long. The limit falls by one a start.
-#[derive(Drop)]
+#[derive(Clone, Copy)]
 pub struct Running {
     pub planner: Planner,
     pub at: usize,
@@ -32,7 +32,7 @@ pub struct Running {
 
 // Where a plan call is: what is to be noted, whether anything is to be noted after it, and how many records are to be emptied yet
 // before the first start.
-#[derive(Drop)]
+#[derive(Clone, Copy)]
 pub struct Going {
     pub go: bool,
     pub change: Change,

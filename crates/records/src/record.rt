@@ -10,13 +10,13 @@ use load::counts::Counts;
 use load::refusal::{Refusal, Verdict};
 
 // The byte after what was read, or the refusal at which reading stopped.
-#[derive(Drop)]
+#[derive(Clone, Copy)]
 pub enum Walk {
     At(usize),
     Stopped(Refusal),
 }
 
-#[derive(Drop)]
+#[derive(Clone, Copy)]
 pub enum Found {
     Holds(Block),
     Stopped(Refusal),

@@ -1,7 +1,7 @@
 -- Laws of a list of flows of the load, none twice: what it keeps where flows join it and leave it, and that it is no longer than the
 -- load has flows. Each entry counts at a flow of the load, and no two at the same.
 use Prim.Native.Nat.{ℕ, zero, suc, ◌+◌, ◌-◌, ◌≤◌, ◌<◌}
-use mathlib.Core.Bool.{true, false, true≢false, ◌||◌, or_assoc, or_false}
+use mathlib.Core.Bool.{true, false, true≢false, ◌||◌, or_assoc, or-false}
 use mathlib.Core.List.{List, [], ◌∷◌, ◌++◌}
 use mathlib.Core.Path.{◌≡◌, refl, sym, ◌∙◌}
 use native.Mathlib.Omega.{arith}
@@ -47,7 +47,7 @@ listed_append g (e ∷ v) w = rw (listed_append g v w) (sym (or_assoc (eqb e.flo
 
 pub listed_join : (g : ℕ) (e : Entry) (w : List Entry) → listed g (w ++ (e ∷ [])) ≡ listed g w || eqb e.flow g
 unfolding listed
-listed_join g e w = rw (listed_append g w (e ∷ []), or_false) refl
+listed_join g e w = rw (listed_append g w (e ∷ []), or-false) refl
 
 apart_join : (e : Entry) (w : List Entry) → listed e.flow w ≡ false → Apart w → Apart (w ++ (e ∷ []))
 unfolding listed

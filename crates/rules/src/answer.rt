@@ -2,7 +2,7 @@
 use load::refusal::Refusal;
 
 // What is counted of the rows: blocks listed, turns, rounds, turns held, held ticks in sum, and the end.
-#[derive(Drop)]
+#[derive(Clone, Copy)]
 pub struct Summary {
     pub blocks: u64,
     pub turns: u64,
@@ -13,7 +13,7 @@ pub struct Summary {
 }
 
 // What the plan call answers.
-#[derive(Drop)]
+#[derive(Clone, Copy)]
 pub enum Planned {
     Refused(Refusal),
     Plan(Summary),

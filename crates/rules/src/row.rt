@@ -1,7 +1,7 @@
 // A row of the plan: 15 words of 64 bits.
 use crate::stages::Way;
 
-#[derive(Drop)]
+#[derive(Clone, Copy)]
 pub struct Row {
     pub block: u64,
     pub flow: u64,

@@ -1,14 +1,14 @@
 // A block's way through the stages.
 
 // A run at one stage.
-#[derive(Drop)]
+#[derive(Clone, Copy)]
 pub struct Span {
     pub start: u64,
     pub finish: u64,
 }
 
 // The runs of a block at the four stages; start and finish are 0 at those that the load lacks.
-#[derive(Drop)]
+#[derive(Clone, Copy)]
 pub struct Way {
     pub one: Span,
     pub two: Span,

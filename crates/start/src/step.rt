@@ -24,7 +24,7 @@ use rules::row::Row;
 use waiting::Storage;
 
 // The block that starts: its place in the table, its words, and its dominant time and stage, which are found once and handed on.
-#[derive(Drop)]
+#[derive(Clone, Copy)]
 pub struct Due {
     pub place: usize,
     pub block: Block,
@@ -33,7 +33,7 @@ pub struct Due {
 }
 
 // The next start, with its block's dominant time and the planner after it, or that nothing is left to start.
-#[derive(Drop)]
+#[derive(Clone, Copy)]
 pub enum Next {
     Start(Row, u64, Planner),
     Done,

@@ -3,13 +3,11 @@ use Prim.Native.Nat.{ℕ, max}
 use mathlib.Core.Bool.{cond}
 use mathlib.Core.Path.{◌≡◌}
 use native.Mathlib.Omega.{arith}
-use borrow.Author.Rules.{rules}
 use borrow.Author.Tests.{eq-eqb, leb-false, leb-true, ne_eqb}
 use lib.Dec.{eqb, leb}
 use Rattle.load.proofs.Cases.{cases}
 use Rattle.dominant.specs.Dominant.{dominant_stage, dominant_time}
-use Rattle.dominant.proofs.highest.Statement.{statement}
-use Rattle.dominant.proofs.highest.Tie as tie
+use Rattle.dominant.proofs.highest.Goals as goal
 
 -- The code compares a time with the largest before it, the definition with the largest of all. `earlier` is the stage before that has a given time.
 so_far : (earlier : ℕ → ℕ) (most time stage : ℕ) → cond (leb most time) stage (earlier most) ≡ cond (eqb time (max most time)) stage (earlier (max most time))
@@ -18,22 +16,13 @@ so_far earlier most time stage =
     (λ e. let h = leb-true most time e in rw (e, eq-eqb time (max most time) (omega arith)))
     (λ e. let h = leb-false most time e in let m : max most time ≡ most = omega arith in rw (e, m, ne_eqb time most (omega arith)))
 
-higher-requires : tie.Need-higher-requires
-higher-requires c κs = search rules
-
-higher-requires-2 : tie.Need-higher-requires-2
-higher-requires-2 c κs = search rules
-
-higher-requires-3 : tie.Need-higher-requires-3
-higher-requires-3 c κs = search rules
-
-returns : tie.Need-returns
+pub returns : goal.returns
 unfolding dominant_stage dominant_time
 returns c =
-    let b = c.before.before.before.args.block in
-    let two = c.before.before.higher.ensures in
-    let three = c.before.higher2.ensures in
-    let four = c.higher3.ensures in
+    let b = c.args.block in
+    let two = c.higher-second.ensures in
+    let three = c.higher-third.ensures in
+    let four = c.higher.ensures in
     search (
       arith,
       four.1,
@@ -45,6 +34,3 @@ returns c =
       so_far (λ m. cond (eqb b.time2 m) 2 1),
       so_far (λ m. cond (eqb b.time3 m) 3 (cond (eqb b.time2 m) 2 1)),
     )
-
-pub highest-spec : {M : Type 1} → statement M
-highest-spec = tie.close (tie.spec higher-requires higher-requires-2 higher-requires-3 returns)

@@ -1,0 +1,56 @@
+-- `records::standing::entry` meets its contract: at each turn the entry so many places on, from the byte reached, is the entry asked for.
+use mathlib.Core.Path.{refl, sym, ◌∙◌}
+use native.Mathlib.Nat.{add-sub_cancel_left}
+use native.Mathlib.Omega.{arith}
+use Rattle.records.specs.Standing.{entry}
+use Rattle.records.proofs.Entries.{entry_ended, entry_here, entry_short, entry_next}
+use Rattle.records.proofs.Parts.{is_part}
+use Rattle.records.proofs.standing.entry.Goals as goal
+
+pub returns-then-list-at : goal.returns-then-list-at
+unfolding entry
+returns-then-list-at c =
+    is_part _ _ _ 0 0 (sym c.loop-left.invariant.1 ∙ entry_ended _ _ _ c.if-list-at.true)
+    (omega arith) refl (omega arith) refl
+
+pub overflow_cast-at : goal.overflow_cast-at
+overflow_cast-at c = omega (arith, c.shared_slice_known-1.given c.loop-left.at)
+
+pub overflow_add-at : goal.overflow_add-at
+overflow_add-at c = omega (arith, c.shared_slice_known-1.given c.loop-left.at)
+
+pub overflow_add-at-in-loop-left : goal.overflow_add-at-in-loop-left
+overflow_add-at-in-loop-left c = omega (arith, c.shared_slice_known-1.given c.loop-left.at)
+
+pub loop-left-preserved : goal.loop-left-preserved
+loop-left-preserved c =
+    let k = c in (
+      omega (arith, c.shared_slice_known-1.given k.loop-left.at),
+      sym (entry_next k.args.list.now k.loop-left.at _ c.loop-left-test.true) ∙ k.loop-left.invariant.1,
+    )
+
+pub returns-then-list-at-2 : goal.returns-then-list-at-2
+unfolding entry
+returns-then-list-at-2 c =
+    is_part _ _ _ 0 0 (sym c.loop-left.invariant.1 ∙ entry_ended _ _ _ c.if-list-at-2.true)
+    (omega arith) refl (omega arith) refl
+
+pub overflow_cast-end : goal.overflow_cast-end
+overflow_cast-end c = omega (arith, c.shared_slice_known-2-1.given c.loop-left.at)
+
+pub overflow_add-end : goal.overflow_add-end
+overflow_add-end c = omega (arith, c.shared_slice_known-2-1.given c.loop-left.at)
+
+pub returns-then-list-end : goal.returns-then-list-end
+unfolding entry
+returns-then-list-end c =
+    let k = c in
+    is_part _ _ _ 0 0 (sym k.loop-left.invariant.1 ∙ entry_short _ _ _ k.loop-left-test.false c.if-list-end.true)
+    (omega arith) refl (omega arith) refl
+
+pub returns : goal.returns
+unfolding entry
+returns c =
+    let k = c in
+    is_part _ _ _ _ _ (sym k.loop-left.invariant.1 ∙ entry_here _ _ _ k.loop-left-test.false c.if-list-end.false)
+    (omega arith) refl (omega arith) (rw add-sub_cancel_left)
