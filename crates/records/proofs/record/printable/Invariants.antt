@@ -5,8 +5,8 @@ use lib.ListN.{length, drop}
 use Rattle.records.specs.Records.{name_bytes}
 use Rattle.records.proofs.record.printable.Given as goal
 
-abbrev pub invariant-[['loop', 'loop-i'], ['name', 'i']] : goal.invariant-[['loop', 'loop-i'], ['name', 'i']]
-invariant-[['loop', 'loop-i'], ['name', 'i']] l = (l.i ≤ length l.name) × (name_bytes (drop l.i l.name) ≡ name_bytes l.name)
+abbrev pub invariant-loop-i : goal.invariant-loop-i
+invariant-loop-i l = (l.i ≤ length l.name) × (name_bytes (drop l.i l.name) ≡ name_bytes l.name)
 
-abbrev pub decreases-[['loop', 'loop-i'], ['name', 'i']] : goal.decreases-[['loop', 'loop-i'], ['name', 'i']]
-decreases-[['loop', 'loop-i'], ['name', 'i']] l = length l.name - l.i
+abbrev pub decreases-loop-i : goal.decreases-loop-i
+decreases-loop-i l = length l.name - l.i

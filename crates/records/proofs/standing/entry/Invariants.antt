@@ -5,8 +5,8 @@ use lib.ListN.{length}
 use Rattle.records.specs.Standing.{entry_from}
 use Rattle.records.proofs.standing.entry.Given as goal
 
-abbrev pub invariant-[['loop', 'loop-left'], ['list', 'number', 'at', 'left']] : goal.invariant-[['loop', 'loop-left'], ['list', 'number', 'at', 'left']]
-invariant-[['loop', 'loop-left'], ['list', 'number', 'at', 'left']] l = (l.at ≤ length l.list + 256) × (entry_from l.list l.at l.left ≡ entry_from l.list 0 l.number)
+abbrev pub invariant-loop-left : goal.invariant-loop-left
+invariant-loop-left l = (l.at ≤ length l.list + 256) × (entry_from l.list l.at l.left ≡ entry_from l.list 0 l.number)
 
-abbrev pub decreases-[['loop', 'loop-left'], ['list', 'number', 'at', 'left']] : goal.decreases-[['loop', 'loop-left'], ['list', 'number', 'at', 'left']]
-decreases-[['loop', 'loop-left'], ['list', 'number', 'at', 'left']] l = l.left
+abbrev pub decreases-loop-left : goal.decreases-loop-left
+decreases-loop-left l = l.left
