@@ -12,22 +12,22 @@ returns-in_default c = simp (← c.measure-measured.ensures, c.in_default.is)
 
 pub slice_bounds-printable-count : goal.slice_bounds-printable-count
 slice_bounds-printable-count c =
-    omega (arith, measure_within _ _ _ _ (sym c.measure-measured.ensures ∙ c.decreases.given.1))
+    omega (arith, measure_within _ _ _ _ (sym c.measure-measured.ensures ∙ c.in-At.is))
 
 pub slice_bounds-printable-start : goal.slice_bounds-printable-start
 slice_bounds-printable-start c =
-    omega (arith, measure_within _ _ _ _ (sym c.measure-measured.ensures ∙ c.decreases.given.1))
+    omega (arith, measure_within _ _ _ _ (sym c.measure-measured.ensures ∙ c.in-At.is))
 
 pub slice_bounds-printable-end : goal.slice_bounds-printable-end
 slice_bounds-printable-end c =
-    omega (arith, measure_within _ _ _ _ (sym c.measure-measured.ensures ∙ c.decreases.given.1))
+    omega (arith, measure_within _ _ _ _ (sym c.measure-measured.ensures ∙ c.in-At.is))
 
 pub returns-then-printable : goal.returns-then-printable
 unfolding flow_record flow_measured bytes_in name_in stop_if
 returns-then-printable c =
     simp (
       ← c.measure-measured.ensures,
-      c.decreases.given.1,
+      c.in-At.is,
       ← c.printable.ensures,
       c.if-printable.true,
     )
@@ -37,7 +37,7 @@ unfolding flow_record flow_measured bytes_in name_in stop_if
 returns-else-printable c =
     simp (
       ← c.measure-measured.ensures,
-      c.decreases.given.1,
+      c.in-At.is,
       ← c.printable.ensures,
       c.if-printable.false,
     )
