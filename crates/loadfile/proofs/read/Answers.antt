@@ -1,0 +1,69 @@
+-- `loadfile::read` meets its contract: each refusal is the one that the layout gives first, and leaves the table; after the last test the table is filled.
+use mathlib.Core.Path.{ap, sym, ◌∙◌}
+use native.Mathlib.Omega.{arith}
+use Rattle.records.specs.Answers.{list_of, walk_of}
+use Rattle.header.proofs.Accepted.{header_good}
+use Rattle.body.proofs.Walks.{flows_within}
+use Rattle.loadfile.proofs.Body.{body_reads, body_refuses}
+use Rattle.loadfile.proofs.Files.{reading_records, reading_refused, reading_short, reads_refused, reads_whole}
+use Rattle.loadfile.proofs.read.Goals as goal
+
+pub returns-in-Refused : goal.returns-in-Refused
+returns-in-Refused c = reads_refused _ _ _ (reading_refused _ _ _ (sym c.test.ensures ∙ c.in-Refused.is))
+
+pub counts-counts-requires : goal.counts-counts-requires
+counts-counts-requires c = (header_good _ (sym c.test.ensures ∙ c.in_default.is)).long
+
+pub overflow_mul-counts : goal.overflow_mul-counts
+overflow_mul-counts c =
+    let good = header_good _ (sym c.test.ensures ∙ c.in_default.is) in
+    let blocks = rw (← c.counts-counts.ensures) at good.within.blocks_within in
+    omega arith
+
+pub returns-then-table-counts : goal.returns-then-table-counts
+returns-then-table-counts c =
+    let k = c in
+    let header = sym k.test.ensures ∙ k.in_default.is in
+    reads_refused _ _ _ (reading_short _ _ _ k.counts-counts.ensures header c.if-table-counts.true)
+
+pub body-requires : goal.body-requires
+body-requires c =
+    let k = c in
+    let good = header_good _ (sym k.test.ensures ∙ k.in_default.is) in
+    (rw c.counts-counts.ensures good.within.stages_within, good.long)
+
+pub fill-requires : goal.fill-requires
+unfolding walk_of
+fill-requires c =
+    let k = c in
+    let good = header_good _ (sym k.test.ensures ∙ k.in_default.is) in
+    let sound = body_reads _ _ _ (sym c.body.ensures ∙ c.in-At.is) in
+    record {
+      stages_bound = (
+        rw k.counts-counts.ensures good.within.stages_within,
+        flows_within _ _ _ _ good.long (ap walk_of sound.flows_read),
+        c.if-table-counts.false,
+      );
+      from_value = ap walk_of sound.blocks_read;
+    }
+
+pub returns-in-Stopped : goal.returns-in-Stopped
+returns-in-Stopped c =
+    let k = c in
+    let header = sym k.test.ensures ∙ k.in_default.is in
+    let walk = sym c.body.ensures ∙ c.in-Stopped.is in
+    reads_refused _ _ _
+    (reading_records _ _ _ k.counts-counts.ensures header c.if-table-counts.false
+    ∙ body_refuses _ _ _ walk)
+
+pub returns-in-At : goal.returns-in-At
+unfolding list_of
+returns-in-At c =
+    let k = c in
+    let header = sym k.test.ensures ∙ k.in_default.is in
+    let walk = sym c.body.ensures ∙ c.in-At.is in
+    let sound = body_reads _ _ _ walk in
+    rw (c.fill.ensures, sound.blocks_read)
+    (reads_whole _ _ _ _
+    (reading_records _ _ _ k.counts-counts.ensures header c.if-table-counts.false
+    ∙ sound.reads))
