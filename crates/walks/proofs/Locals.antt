@@ -1,15 +1,15 @@
 -- A local array that is lent whole as a `&mut [T; N]` for a call, and comes back, as steps of `Types/Kit.antt`'s calculus. Between
 -- calls it is one entry, `part_at` at the whole share: the array lies at the local. Nothing here names the crate.
 --     holds        [the array's cell; what the array owns] becomes [the array lies there]
---     lends-whole  [x lies at the local] becomes [the token of a new lifetime ν; the `&mut`, lent at ν under a new name δ; what the lender keeps]        For any type, not only an array
+--     lends_whole  [x lies at the local] becomes [the token of a new lifetime ν; the `&mut`, lent at ν under a new name δ; what the lender keeps]        For any type, not only an array
 --     whole_back   [ν's token; what the lender keeps; what is said last of δ] becomes [the last value lies there]
---     leaves-room  [the array lies there] becomes [room for the local], which is freed
+--     leaves_room  [the array lies there] becomes [room for the local], which is freed
 -- Assumes `Logic`.
 use mathlib.Core.Path.{refl}
 use Prim.Native.Nat.{ℕ}
 use mathlib.Core.List.{List, [], ◌∷◌}
 use seplogic.Ra.Ura.{Ura}
-use seplogic.Ra.TreeShare.{full_share}
+use base.Fraction.{full_share}
 use mir.Syntax.{Lifetime, ty_array}
 use mir.Val.{Val, vptr}
 use base.Fml.{GName, Fml, fsep, fat, flft, flent, fres, froom}
