@@ -1,0 +1,49 @@
+-- `start::step::first` meets its contract: no block waits, or the oldest is started and the flow's gate is set.
+use mathlib.Core.List.{[]}
+use mathlib.Core.Option.{some}
+use mathlib.Core.Path.{ap, sym, ◌∙◌}
+use native.Mathlib.Omega.{arith}
+use lib.ListN.{set}
+use Rattle.rules.specs.Plan.{begins}
+use Rattle.decide.proofs.Deciding.{starts, starts_not, the_oldest}
+use Rattle.start.specs.Next.{Answers}
+use Rattle.start.proofs.Starting.{first_is, row_due, row_time}
+use Rattle.start.proofs.step.first.Goals as goal
+
+pub returns-then-next-place : goal.returns-then-next-place
+unfolding begins Answers
+returns-then-next-place c = λ from follows.
+    let k = c.requires.starts in
+    starts_not _ _ _ follows k.0.stands.arrived _ k.1.0 _ c.oldest-place.ensures _ c.if-next-place.true
+
+pub due_at-due-requires : goal.due_at-due-requires
+due_at-due-requires c =
+    let k = c.requires in
+    omega (arith, k.accepted.blocks, k.accepted.room, k.starts.0.stands.arrived, c.if-next-place.false)
+
+pub after-then-requires : goal.after-then-requires
+after-then-requires c =
+    let d = c in
+    let o = d in
+    let k = o in
+    let row = c.row_of-row.ensures k.args.blocks.now [] [] [] _ d.due_at-due.ensures in
+    record { accepted = k.requires.accepted; starts = k.requires.starts; block_value = row_due _ _ _ _ _ _ _ row k.args.queues.now _ o.oldest-place.ensures d.if-next-place.false; time_value = row_time _ _ _ _ _ _ _ row _ d.due_at-due.ensures }
+
+pub returns : goal.returns
+unfolding begins Answers
+returns c = λ from follows.
+    let d = c in
+    let o = d in
+    let k = o in
+    let gate = k.args.gate.now in
+    let row = c.row_of-row.ensures k.args.blocks.now k.args.list.now from gate _ d.due_at-due.ensures in
+    let waits = d.if-next-place.false in
+    let last = c.last_start in
+    let after = c.after-then.ensures from gate (set gate k.args.turn.flow last.result) follows in
+    let found = the_oldest _ _ _ follows k.requires.starts.0.stands.arrived _ k.requires.starts.1.0 _ o.oldest-place.ensures waits in
+    let then = rw last.ensures at after.0 in (
+      rw last.ensures
+          (starts _ _ _ follows k.requires.starts.0.stands.arrived _ k.requires.starts.1.0 _ o.oldest-place.ensures _ waits ∙ sym (ap some (first_is _ _ _ _ _ _ found _ row then))),
+      row_time _ _ _ _ _ _ _ row _ d.due_at-due.ensures,
+      after.1,
+    )
