@@ -4,7 +4,6 @@ use Prim.Native.Nat.{ℕ, min}
 use mathlib.Core.List.{List}
 use mathlib.Core.Path.{◌≡◌, refl, sym, ap, subst, ◌∙◌}
 use native.Mathlib.Omega.{arith}
-use borrow.Author.Rules.{rules}
 use lib.ListN.{replicate}
 use Rattle.load.specs.declared.counts.Counts.{Counts}
 use Rattle.load.specs.declared.refusal.Verdict.{Verdict}
@@ -20,8 +19,7 @@ use Rattle.arrivals.specs.State.{state_of}
 use Rattle.queues.specs.Queues.{Follows}
 use Rattle.progress.specs.declared.run.Going.{Going}
 use Rattle.progress.specs.Going.{Begins, Emptying, idle, taken, unlisted}
-use Rattle.progress.proofs.run.first.Statement.{statement}
-use Rattle.progress.proofs.run.first.Tie as tie
+use Rattle.progress.proofs.run.first.Goals as goal
 
 taken_accepted : (c : Counts) (n : ℕ) (table : List ℕ) (flow_records row_words : ℕ) (v : Verdict) → v ≡ plan_verdict c n table flow_records row_words
     → (t : Counts) → t ≡ taken c v → Accepted (load_of t table)
@@ -49,40 +47,25 @@ begins c n table flow_records row_words g list queues v t p left said load many 
       go = made.go;
     }
 
-test-requires : tie.Need-test-requires
-test-requires c κs = search rules
+pub link-requires : goal.link-requires
+link-requires c =
+    let t = c in
+    (taken_accepted _ _ _ _ _ _ t.test-verdict.ensures _ t.taken-load.ensures, t.requires.1)
 
-taken-requires : tie.Need-taken-requires
-taken-requires c κs = search rules
+pub origin-planner-requires : goal.origin-planner-requires
+origin-planner-requires c =
+    let t = c in
+    record { accepted = (taken_accepted _ _ _ _ _ _ t.test-verdict.ensures _ t.taken-load.ensures, t.requires.0); follows = c.link.ensures }
 
-listed-requires : tie.Need-listed-requires
-listed-requires c κs = search rules
-
-link-requires : tie.Need-link-requires
-link-requires c κs =
-    let t = c.before.before in
-    (taken_accepted _ _ _ _ _ _ t.before.test.ensures _ t.taken.ensures, t.before.before.before.requires.1)
-
-origin-requires : tie.Need-origin-requires
-origin-requires c κs =
-    let t = c.before.before.before.before.before in
-    ((taken_accepted _ _ _ _ _ _ t.before.test.ensures _ t.taken.ensures, t.before.before.before.requires.0), c.before.before.link.ensures)
-
-unlisted-requires : tie.Need-unlisted-requires
-unlisted-requires c κs = search rules
-
-emptying-requires : tie.Need-emptying-requires
+pub emptying-requires : goal.emptying-requires
 unfolding unlisted
-emptying-requires c κs =
-    let t = c.before.before.before.before.before.before.before in
-    let ok = taken_accepted _ _ _ _ _ _ t.before.test.ensures _ t.taken.ensures in
-    (omega (arith, ok.flows), rw c.unlisted.ensures (omega (arith, ok.blocks, c.before.before.before.before.before.before.listed.ensures)))
+emptying-requires c =
+    let t = c in
+    let ok = taken_accepted _ _ _ _ _ _ t.test-verdict.ensures _ t.taken-load.ensures in
+    (omega (arith, ok.flows), rw c.unlisted.ensures (omega (arith, ok.blocks, c.listed-left.ensures)))
 
-returns : tie.Need-returns
+pub returns : goal.returns
 returns c =
-    let t = c.before.before.before.before.before.before.before.before in
-    begins _ _ _ _ _ _ _ _ _ _ _ _ t.before.test.ensures t.taken.ensures c.before.before.before.before.before.before.before.listed.ensures c.before.before.before.before.before.link.ensures
-    c.before.before.origin.ensures (rw c.before.unlisted.ensures at c.emptying.ensures)
-
-pub first_spec : {M : Type 1} → statement M
-first_spec = tie.close (tie.spec test-requires taken-requires listed-requires link-requires origin-requires unlisted-requires emptying-requires returns)
+    let t = c in
+    begins _ _ _ _ _ _ _ _ _ _ _ _ t.test-verdict.ensures t.taken-load.ensures c.listed-left.ensures c.link.ensures
+    c.origin-planner.ensures (rw c.unlisted.ensures at c.emptying.ensures)

@@ -7,8 +7,7 @@ use Rattle.rules.specs.declared.record.FlowRecord.{FlowRecord}
 use Rattle.rules.specs.Counts.{added, unlisted}
 use Rattle.progress.specs.declared.change.Change.{Change}
 use Rattle.progress.specs.Changes.{changed}
-use Rattle.progress.proofs.change.changed.Statement.{statement}
-use Rattle.progress.proofs.change.changed.Tie as tie
+use Rattle.progress.proofs.change.changed.Goals as goal
 
 emptied : (r : FlowRecord) (c : Change) → c.empty ≡ true → record { blocks = 0; turns = 0; time = 0 } ≡ changed r c
 unfolding changed unlisted
@@ -18,20 +17,17 @@ more : (r : FlowRecord) (c : Change) → c.empty ≡ false → record { blocks =
 unfolding changed added
 more r c e = rw e refl
 
-returns : tie.Need-returns
-returns c = emptied _ _ c.if1.true
+pub returns-then-change : goal.returns-then-change
+returns-then-change c = emptied _ _ c.if-change.true
 
-add-t4 : tie.Need-overflow-add-t4
-add-t4 c = omega (arith, (c.before.before.requires c.before.if1.false).0)
+pub overflow_add-result : goal.overflow_add-result
+overflow_add-result c = omega (arith, (c.requires c.if-change.false).0)
 
-add-t5 : tie.Need-overflow-add-t5
-add-t5 c = omega (arith, (c.before.before.before.before.requires c.before.before.before.if1.false).1)
+pub overflow_add-result-2 : goal.overflow_add-result-2
+overflow_add-result-2 c = omega (arith, (c.requires c.if-change.false).1)
 
-add-t6 : tie.Need-overflow-add-t6
-add-t6 c = omega (arith, (c.before.before.before.before.before.before.requires c.before.before.before.before.before.if1.false).2)
+pub overflow_add-result-3 : goal.overflow_add-result-3
+overflow_add-result-3 c = omega (arith, (c.requires c.if-change.false).2)
 
-returns-2 : tie.Need-returns-2
-returns-2 c = more _ _ c.before.before.before.before.before.if1.false
-
-pub changed-spec : {M : Type 1} → statement M
-changed-spec = tie.close (tie.spec returns add-t4 add-t5 add-t6 returns-2)
+pub returns : goal.returns
+returns c = more _ _ c.if-change.false

@@ -4,31 +4,17 @@ use mathlib.Core.List.{List}
 use mathlib.Core.Path.{◌≡◌, refl, ◌∙◌}
 use native.Mathlib.Numerals.{sub-one}
 use native.Mathlib.Omega.{arith}
-use borrow.Author.Rules.{rules}
 use Rattle.rules.specs.declared.mode.Mode.TheVariants.{Idle}
 use Rattle.rules.specs.Load.{Load}
 use Rattle.rules.specs.Plan.{State}
 use Rattle.progress.specs.declared.run.Going.{Going}
 use Rattle.progress.specs.Going.{Does, Empties, Emptying, idle, Moves, Shows}
 use Rattle.progress.proofs.Running.{starts_few}
-use Rattle.progress.proofs.run.next.Statement.{statement}
-use Rattle.progress.proofs.run.next.Tie as tie
+use Rattle.progress.proofs.run.next.Goals as goal
 
-start-requires : tie.Need-start-requires
-start-requires c κs = search rules
-
-same_length : tie.Need-same-length
-same_length c = search rules
-
-returns : tie.Need-returns
-returns c = search rules
-
-sub-emptying : tie.Need-overflow-sub-emptying
-sub-emptying c = search rules
-
-emptying-requires : tie.Need-emptying-requires
-emptying-requires c κs =
-    let ready = c.before.before.before.before.before.before.requires.ready in
+pub emptying-requires : goal.emptying-requires
+emptying-requires c =
+    let ready = c.requires.ready in
     (omega (arith, ready.flows), omega (arith, starts_few _ _ _ _ ready))
 
 -- a record is emptied: the planner is made anew as it was
@@ -48,11 +34,8 @@ module _ (L : Load) (g : Going) (list queues gate rows : List ℕ) (s : State) (
         go = made.go;
       }
 
-returns-2 : tie.Need-returns-2
-returns-2 c = λ s shows.
-    let k = c.before.before.before.before.before.before.before in
+pub returns : goal.returns
+returns c = λ s shows.
+    let k = c in
     let some : 0 < k.args.going.empties = omega arith in
     empties-one _ _ _ _ _ _ _ _ some (k.requires.ready.unbegun some) shows c.emptying.ensures
-
-pub next-spec : {M : Type 1} → statement M
-next-spec = tie.close (tie.spec start-requires same_length returns sub-emptying emptying-requires returns-2)
