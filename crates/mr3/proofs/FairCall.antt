@@ -11,7 +11,7 @@ use Rattle.rules.specs.Fairness.{Fair}
 use Rattle.rules.specs.Load.{Load, load_of}
 use Rattle.rules.specs.Rows.{rows_in}
 use Rattle.rules.proofs.Demand3.{call_alike, call_each_block, call_fair}
-use Rattle.mr3.proofs.PlanReads as plan
+use Rattle.mr3.proofs.plan.Reads as plan
 
 -- what a contract gives for every call: lifetimes, arguments, result and parameters as the call returns
 module _ {K : Type 0} {Args Result Exit : K → Type 0} (post : (κs : K) → Args κs → Result κs → Exit κs → Type 0) where

@@ -2,11 +2,11 @@
 -- thing noted keeps it, and that at the end it is what the call promises. It says what the rest of the plan will make of the
 -- tables and the counts; of a refused call there is no rest.
 use Prim.Native.Nat.{ℕ, zero, suc, ◌+◌, ◌-◌, ◌*◌, ◌/◌, ◌≤◌, ◌<◌, min}
-use mathlib.Core.Bool.{true≢false}
+use mathlib.Core.Bool.{false, true, true≢false}
 use mathlib.Core.List.{List, [], ◌∷◌, ◌++◌, append_assoc, append-nil}
-use mathlib.Core.Path.{◌≡◌, refl, sym, ap, ◌∙◌}
+use mathlib.Core.Path.{◌≡◌, refl, sym, ap, subst, ◌∙◌}
 use native.Mathlib.Omega.{arith}
-use borrow.Author.Tests.{eqb-false, eqb-true}
+use borrow.Author.Tests.{eqb-false, eqb-true, ltb-false, ltb-true}
 use lib.Dec.{eqb, ltb}
 use lib.ListN.{drop, get_or, length, length-set, replicate, set, take, take-append-drop}
 use lib.Seq.{drop-drop, get_or-set_other, get_or-set_same}
@@ -36,7 +36,7 @@ use Rattle.progress.specs.declared.run.Going.{Going}
 use Rattle.progress.specs.declared.run.Running.{Running}
 use Rattle.progress.specs.Changes.{adds, changed, empties, Fits, noted}
 use Rattle.arrivals.specs.State.{state_of}
-use Rattle.progress.specs.Going.{answered, Begins, Does, Empties, Moves, Ready, Shows, Starts, summary_of, taken}
+use Rattle.progress.specs.Going.{answered, Begins, Does, Empties, Moves, Ready, ReadyAt, Shows, Starts, summary_of, taken}
 use Rattle.progress.proofs.Running.{next_row, row_room, row_within, runs_on, to_start}
 
 -- where no block has started, no stage has a run
@@ -331,3 +331,54 @@ module _ (c : Counts) (n : ℕ) (table : List ℕ) (fs₀ : List FlowRecord) (ws
       let no_flow : g.empties ≡ 0 = omega (arith, p.many) in
       let no_start : g.running.left ≡ 0 = omega (arith, p.many) in
       rw (p.verdict_is, ← written_none g.running.at ws) (rw (no_flow, no_start) at p.ends)
+
+  -- ---- the code's loop at a turn: the planner and its arrays stand for a state as long as anything is to be noted
+  pub record Turn (g : Going) (list queues gate : List ℕ) (fs : List FlowRecord) (ws : List ℕ) : Type 0 where
+    pub state : State
+    pub goes : Goes (g.empties + g.running.left) g state fs ws
+    pub shows : 0 < g.empties + g.running.left → Shows L g list queues gate state
+
+  pub turn_first : (g : Going) (list queues : List ℕ) → Begins c n table (length fs₀) (length ws₀) g list queues → Turn g list queues (replicate 64 0) fs₀ ws₀
+  turn_first g list queues b = record { state = _; goes = goes_first g list queues b; shows = shows_first g list queues b }
+
+  module _ (g : Going) (list queues gate : List ℕ) (fs : List FlowRecord) (ws : List ℕ) (t : Turn g list queues gate fs ws) where
+    module _ (more : g.go ≡ true) where
+      some : 0 < g.empties + g.running.left
+      some = ltb-true 0 _ (sym t.goes.go ∙ more)
+
+      pub turn_ready : ReadyAt L g list queues gate (length ws)
+      turn_ready = go (g.empties + g.running.left) some t.goes where
+        go : (m : ℕ) → 0 < m → Goes m g t.state fs ws → ReadyAt L g list queues gate (length ws)
+        go zero h p = absurd (omega arith)
+        go (suc i) h p = record { state = t.state; shows = t.shows some; ready = goes_ready i g t.state fs ws p }
+
+      module _ (g' : Going) (list' queues' gate' ws' : List ℕ)
+          (moves : (s : State) → Shows L g list queues gate s → Moves L g s ws g' (Shows L g' list' queues' gate') ws') where
+        pub record Noted : Type 0 where
+          pub here : g'.change.flow < length fs
+          pub fits : Fits (get_or fs g'.change.flow unlisted) g'.change
+          pub turn : Turn g' list' queues' gate' (noted fs g'.change) ws'
+          pub less : g'.empties + g'.running.left < g.empties + g.running.left
+
+        pub turn_next : Noted
+        turn_next = go (g.empties + g.running.left) some t.goes refl where
+          go : (m : ℕ) → 0 < m → Goes m g t.state fs ws → m ≡ g.empties + g.running.left → Noted
+          go zero h p e = absurd (omega arith)
+          go (suc i) h p e =
+              let on = goes_on i g t.state fs ws p g' (Shows L g' list' queues' gate') ws' (moves t.state (t.shows some)) in
+              let many = on.goes.many in
+              record {
+                here = on.here;
+                fits = on.fits;
+                turn = record {
+                  state = on.then;
+                  goes = subst (λ (m : ℕ). Goes m g' on.then (noted fs g'.change) ws') many on.goes;
+                  shows = λ _. on.shows;
+                };
+                less = omega (arith, many, e);
+              }
+
+    pub turn_ends : g.go ≡ false → Plans c n table fs₀ ws₀ (answered g.verdict (summary_of c.stages g.running)) fs ws
+    turn_ends over =
+        let none : g.empties + g.running.left ≡ 0 = omega (arith, ltb-false 0 _ (sym t.goes.go ∙ over)) in
+        goes_ends g t.state fs ws (subst (λ (m : ℕ). Goes m g t.state fs ws) none t.goes)

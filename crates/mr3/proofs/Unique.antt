@@ -1,7 +1,7 @@
 -- The plan call determines its answer, each flow record and each word of the row table.
 use mathlib.Core.Path.{sym, ◌∙◌}
 use Rattle.load.proofs.Once.{OneAnswer, OneExit}
-use Rattle.mr3.proofs.PlanReads as plan
+use Rattle.mr3.proofs.plan.Reads as plan
 
 pub plan_once : OneAnswer plan.Post
 plan_once κs a r r' s s' p q = p.answers ∙ sym q.answers
