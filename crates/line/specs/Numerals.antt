@@ -1,6 +1,14 @@
 -- Numbers as text, in ASCII: `0` is 48, and the digits follow it.
 use Rattle.std.specs.Prelude.{ℕ, zero, suc, ◌+◌, ◌/◌, ◌%◌, cond, List, [], ◌∷◌, ◌++◌, ltb}
-use Rattle.io.specs.Digits.{last_digits}
+
+-- A digit below 16: `0` to `9`, and `a`, which is 97, to `f`.
+abbrev pub hex_digit_ascii : ℕ → ℕ
+hex_digit_ascii d = cond (ltb d 10) (48 + d) (87 + d)
+
+-- The last k digits of n in base b, the most significant first.
+abbrev pub last_digits : ℕ → ℕ → ℕ → List ℕ
+last_digits b zero n = []
+last_digits b (suc k) n = last_digits b k (n / b) ++ (hex_digit_ascii (n % b) ∷ [])
 
 -- The digits of a number that has at most k: a number below ten is a digit; the digits of another are those of a tenth of it, and then its last.
 unfoldable pub digits_in : ℕ → ℕ → List ℕ
