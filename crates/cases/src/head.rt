@@ -1,8 +1,9 @@
 // A case's head: which call it is for, the call's number, and how long the case's two parts are.
 ghost use Rattle.std.specs.Prelude.{◌≤◌, length};
 
-use libc::STDIN_FILENO;
+use crate::input::read_full;
 use records::bytes::four;
+use std::io::Read;
 
 #[derive(Clone, Copy)]
 pub enum Call {
@@ -49,9 +50,9 @@ fn parse(bytes: &[u8]) -> Next
     })
 }
 
-pub fn read() -> Next {
+pub fn read<R: Read>(input: &mut R) -> Next {
     let mut bytes = [0u8; 13];
-    let got = io::read_full(STDIN_FILENO, &mut bytes);
+    let got = read_full(input, &mut bytes);
     if got == 0 {
         return Next::End;
     }

@@ -1,8 +1,10 @@
 // What the battery's cases are made of: a case's head and parameters, the marks in the tables that it lends, and how the tables and
 // the plan call's answer are shown in its line.
 #![tactic(auto)]
+
 pub mod answer;
 pub mod head;
+pub mod input;
 pub mod parameters;
 pub mod record;
 pub mod table;
