@@ -1,5 +1,6 @@
 // The plan call in a case of the battery: the tables that are lent to it, and the call.
 #![tactic(auto)]
+
 ghost use Rattle.std.specs.Prelude.{◌≤◌};
 
 use cases::parameters::Parameters;
@@ -15,8 +16,8 @@ struct Called {
     flows: Flows,
 }
 
-// Lends the plan call the first n records. A function that lends records is proved by hand: it takes them by value and gives
-// them back, so that no other function lends them.
+// Lends the plan call the first n records. It takes the records by value and gives them back, so that no other function lends
+// them.
 fn call(
     mut flows: Flows,
     n: usize,
