@@ -1,12 +1,6 @@
 -- A name and the room for it: a name that is longer leaves the room, and any other stands at its start.
-use Prim.Native.Nat.{ℕ, ◌≤◌, ◌<◌}
-use mathlib.Core.Path.{◌≡◌, refl, sym, ap}
-use mathlib.Core.Bool.{Bool, cond}
-use mathlib.Core.List.{List, ◌++◌}
-use native.Mathlib.Nat.{le_of_eq}
-use borrow.Author.Tests.{le-ltb, lt-ltb}
-use lib.ListN.{length, drop, take}
-use lib.Seq.{take_all}
+use Rattle.std.proofs.Common.{ℕ, ◌≡◌, ◌<◌, ◌≤◌, List, ◌++◌, length, drop, refl, ap}
+use Rattle.std.proofs.lemmas.Bool.{cond_above, cond_below}
 use Rattle.loadfile.specs.Calls.{shown_name}
 use Rattle.export.specs.Calls.{Names, room_after}
 
@@ -15,12 +9,12 @@ module _ (file standing : List ℕ) (flow : ℕ) (room name : List ℕ) (shown :
   unfolding room_after
   name_too_long h = record {
     measures = ap length shown;
-    leaves = rw (← shown) (sym (ap (λ (t : Bool). cond t room (name ++ drop (length name) room)) (lt-ltb (length room) (length name) h)));
+    leaves = rw (← shown) (cond_below (length room) (length name) room (name ++ drop (length name) room) h);
   }
 
-  pub name_copied : length name ≤ length room → Names file standing flow room (length name) (take (length name) name ++ drop (length name) room)
+  pub name_copied : {copied : List ℕ} → copied ≡ name → length name ≤ length room → Names file standing flow room (length name) (copied ++ drop (length name) room)
   unfolding room_after
-  name_copied h = record {
+  name_copied is h = record {
     measures = ap length shown;
-    leaves = rw (← shown, take_all (length name) name (le_of_eq refl)) (sym (ap (λ (t : Bool). cond t room (name ++ drop (length name) room)) (le-ltb (length room) (length name) h)));
+    leaves = rw (is, ← shown) (cond_above (length room) (length name) room (name ++ drop (length name) room) (name ++ drop (length name) room) h refl);
   }

@@ -1,5 +1,3 @@
--- What the proofs of the name call and the plan call use, and that each call has one answer.
+-- What the proof of the name call uses, and that each call has one answer.
 mod Copied
-mod PlanReads
-mod PutCall
 mod Unique

@@ -13,8 +13,8 @@ use Rattle.rules.specs.Calls.{answer_summary}
 use Rattle.rules.specs.Calls as planner
 use Rattle.words.specs.Words.{count_words, summary_words}
 use Rattle.export.specs.Calls.{PlansInWords, ReadsInWords}
-use Rattle.export.proofs.PlanReads as plan
 use Rattle.export.proofs.xarbulest_name.Reads as name
+use Rattle.export.proofs.xarbulest_plan.Reads as plan
 use Rattle.export.proofs.xarbulest_read.Reads as read
 use Rattle.export.proofs.xarbulest_sound.Reads as sound
 

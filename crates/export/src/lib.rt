@@ -41,7 +41,8 @@ pub extern "C" fn xarbulest_name<'a>(
     if room.len() < name.len() {
         return name.len();
     }
-    bytes::copy(name, room)
+    room[..name.len()].copy_from_slice(name);
+    name.len()
 }
 
 // The plan call: the number, and in `counts` blocks listed, turns, rounds, turns held, held ticks and the end.
