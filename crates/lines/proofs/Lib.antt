@@ -1,2 +1,3 @@
+pub mod Leading
 pub mod Short
 pub mod Unique

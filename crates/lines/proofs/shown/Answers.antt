@@ -3,11 +3,9 @@ use mathlib.Core.List.{List, [], ◌∷◌}
 use mathlib.Core.Path.{◌≡◌, refl}
 use Prim.Native.Nat.{ℕ}
 use native.Mathlib.Omega.{arith}
-use borrow.Author.Rules.{rules}
 use lib.ListN.{length}
 use Rattle.lines.specs.Lines.{dash, shown}
-use Rattle.lines.proofs.shown.Statement.{statement}
-use Rattle.lines.proofs.shown.Tie as tie
+use Rattle.lines.proofs.shown.Goals as goal
 
 shown_dash : (name : List ℕ) → length name ≡ 0 → shown name ≡ dash
 unfolding shown
@@ -19,17 +17,8 @@ unfolding shown
 shown_name_lem [] some = absurd (some refl)
 shown_name_lem (b ∷ bs) some = refl
 
-returns : tie.Need-returns
-returns c = rw (shown_dash _ c.before.before.if1.true) c.put.ensures
+pub returns-then-name-eq0 : goal.returns-then-name-eq0
+returns-then-name-eq0 c = rw (shown_dash _ c.if-name-eq0.true) c.put.ensures
 
-returns-2 : tie.Need-returns-2
-returns-2 c = rw (shown_name_lem _ c.before.before.if1.false) c.text.ensures
-
-pub shown-spec : {M : Type 1} → statement M
-shown-spec =
-    tie.close
-    (tie.spec
-    (λ c κs. search rules)
-    returns
-    (λ c κs. search rules)
-    returns-2)
+pub returns : goal.returns
+returns c = rw (shown_name_lem _ c.if-name-eq0.false) c.text.ensures

@@ -1,0 +1,13 @@
+-- `lines::runs` meets its contract: the runs at the four stages, one behind the other, by the row's last eight words.
+use Rattle.rules.specs.Rows.{row_at}
+use Rattle.line.proofs.Pages.{put_then}
+use Rattle.lines.specs.Lines.{runs}
+use Rattle.lines.proofs.runs.Goals as goal
+
+pub returns : goal.returns
+unfolding runs row_at
+returns c =
+    let three = c in
+    let two = three in
+    let one = two in
+    put_then (put_then (put_then one.run-at.ensures two.run-at-2.ensures) three.run-at-3.ensures) c.run.ensures
