@@ -11,18 +11,16 @@ at-block-requires c = simp (part_rest, length-drop) (omega arith)
 
 pub returns-in_default : goal.returns-in_default
 returns-in_default c =
-    let k = c in
     let block = rw part_rest at c.at-block.ensures in
     let refused = sym c.test-verdict.ensures ∙ c.in_default.is in
-    c.in_default.is ∙ sym (blocks_refused _ _ _ _ _ _ (omega arith) block refused) ∙ k.loop-left.invariant.1
+    c.in_default.is ∙ sym (blocks_refused _ _ _ _ _ _ (omega arith) block refused) ∙ c.loop-left.invariant.1
 
 pub loop-left-preserved : goal.loop-left-preserved
 loop-left-preserved c =
-    let k = c in
     let block = rw part_rest at c.at-block.ensures in
     let accepted = sym c.test-verdict.ensures ∙ c.in-Accepted.is in
-    let next = blocks_next _ _ k.args.blocks.now k.loop-left.at k.loop-left.left _ (omega arith) block accepted in
-    (omega arith, sym next ∙ k.loop-left.invariant.1)
+    let next = blocks_next _ _ c.args.blocks.now c.loop-left.at c.loop-left.left _ (omega arith) block accepted in
+    (omega arith, sym next ∙ c.loop-left.invariant.1)
 
 pub returns : goal.returns
 returns c = sym (blocks_end _ _ _ _ (omega arith)) ∙ c.loop-left.invariant.1

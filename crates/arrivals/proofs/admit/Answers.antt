@@ -13,18 +13,15 @@ loop-next-init c = (c.requires.stands, refl)
 
 pub arrival-requires : goal.arrival-requires
 arrival-requires c =
-    let k = c in
-    omega (arith, k.requires.accepted.blocks, k.requires.accepted.room)
+    omega (arith, c.requires.accepted.blocks, c.requires.accepted.room)
 
 pub returns-then-tick-arrival : goal.returns-then-tick-arrival
 returns-then-tick-arrival c =
-    let k = c in
-    sym (arrivals_late _ _ _ _ _ (omega arith) (rw (← c.arrival.ensures) c.if-tick-arrival.true)) ∙ k.loop-next.invariant.1
+    sym (arrivals_late _ _ _ _ _ (omega arith) (rw (← c.arrival.ensures) c.if-tick-arrival.true)) ∙ c.loop-next.invariant.1
 
 pub flow_of-requires : goal.flow_of-requires
 flow_of-requires c =
-    let k = c in
-    omega (arith, k.requires.accepted.blocks, k.requires.accepted.room)
+    omega (arith, c.requires.accepted.blocks, c.requires.accepted.room)
 
 pub arrive-requires : goal.arrive-requires
 arrive-requires c =
@@ -36,11 +33,10 @@ arrive-requires c =
 
 pub loop-next-preserved : goal.loop-next-preserved
 loop-next-preserved c =
-    let k = c in
     let at = c.loop-next in
     let due = rw c.arrival.ensures at c.if-tick-arrival.false in
     let flow = c.flow_of.ensures in (
-      rw (c.arrive.ensures, flow) (arrived_stands _ _ _ k.requires.accepted _ _ (omega arith) at.invariant.0),
+      rw (c.arrive.ensures, flow) (arrived_stands _ _ _ c.requires.accepted _ _ (omega arith) at.invariant.0),
       arrivals_step _ _ _ _ _ _ _ _ (omega arith) due flow c.arrive.ensures ∙ at.invariant.1,
     )
 

@@ -21,8 +21,7 @@ not_listed m queues next w f t h = cases (listed f w) (λ e. absurd (omega (arit
 pub returns-then-oldest-next : goal.returns-then-oldest-next
 unfolding arrived
 returns-then-oldest-next c =
-    let k = c in
-    rw (k.requires.tells.known (omega (arith, c.oldest.ensures, c.if-oldest-next.true))) refl
+    rw (c.requires.tells.known (omega (arith, c.oldest.ensures, c.if-oldest-next.true))) refl
 
 pub returns-then-busy : goal.returns-then-busy
 unfolding arrived
@@ -30,12 +29,10 @@ returns-then-busy c = simp (← c.busy.ensures, c.if-busy.true)
 
 pub join-requires : goal.join-requires
 join-requires c =
-    let k = c in
-    lists_room _ k.requires.flow_lt_most.1 k.requires.flow_lt_most.0 (not_listed _ _ _ _ _ k.requires.tells (omega (arith, c.oldest.ensures, c.if-oldest-next.false)))
+    lists_room _ c.requires.flow_lt_most.1 c.requires.flow_lt_most.0 (not_listed _ _ _ _ _ c.requires.tells (omega (arith, c.oldest.ensures, c.if-oldest-next.false)))
 
 pub returns : goal.returns
 unfolding arrived
 returns c =
-    let k = c in
-    let out = not_listed _ _ _ _ _ k.requires.tells (omega (arith, c.oldest.ensures, c.if-oldest-next.false)) in
+    let out = not_listed _ _ _ _ _ c.requires.tells (omega (arith, c.oldest.ensures, c.if-oldest-next.false)) in
     simp (c.join.ensures, ← c.busy.ensures, c.if-busy.false, out)

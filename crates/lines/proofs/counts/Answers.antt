@@ -6,11 +6,5 @@ use Rattle.lines.proofs.counts.Goals as goal
 pub returns : goal.returns
 unfolding counts_line
 returns c =
-    let end = c in
-    let ticks = end in
-    let held = ticks in
-    let rounds = held in
-    let turns = rounds in
-    let blocks = turns in
-    let first = put_then (put_then blocks.decimal-at.ensures turns.spaced-at.ensures) rounds.spaced-at-2.ensures in
-    put_then (put_then (put_then (put_then first held.spaced-at-3.ensures) ticks.spaced-at-4.ensures) end.spaced-at-5.ensures) c.end.ensures
+    let first = put_then (put_then c.decimal-at.ensures c.spaced-at.ensures) c.spaced-at-2.ensures in
+    put_then (put_then (put_then (put_then first c.spaced-at-3.ensures) c.spaced-at-4.ensures) c.spaced-at-5.ensures) c.end.ensures

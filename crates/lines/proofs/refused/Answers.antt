@@ -6,7 +6,4 @@ use Rattle.lines.proofs.refused.Goals as goal
 pub returns : goal.returns
 unfolding refused_line
 returns c =
-    let spaced = c in
-    let number = spaced in
-    let text = number in
-    put_then (put_then text.text-at.ensures (rw number.number.ensures at spaced.spaced-at.ensures)) c.end.ensures
+    put_then (put_then c.text-at.ensures (rw c.number.ensures at c.spaced-at.ensures)) c.end.ensures

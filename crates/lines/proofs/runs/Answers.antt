@@ -7,7 +7,4 @@ use Rattle.lines.proofs.runs.Goals as goal
 pub returns : goal.returns
 unfolding runs row_at
 returns c =
-    let three = c in
-    let two = three in
-    let one = two in
-    put_then (put_then (put_then one.run-at.ensures two.run-at-2.ensures) three.run-at-3.ensures) c.run.ensures
+    put_then (put_then (put_then c.run-at.ensures c.run-at-2.ensures) c.run-at-3.ensures) c.run.ensures

@@ -8,36 +8,24 @@ use Rattle.listing.proofs.make.Goals as goal
 
 pub overflow_mul-words : goal.overflow_mul-words
 overflow_mul-words c =
-    let known = c in
-    let read = known in
-    omega (arith, (read_listing _ _ _ refl _ _ read.read.ensures known.in-Read.is).within.blocks_within)
+    omega (arith, (read_listing _ _ _ refl _ _ c.read.ensures c.in-Read.is).within.blocks_within)
 
 pub slice_bounds-blocks-end : goal.slice_bounds-blocks-end
 slice_bounds-blocks-end c =
-    let known = c in
-    let read = known in
-    (read_listing _ _ _ refl _ _ read.read.ensures known.in-Read.is).room
+    (read_listing _ _ _ refl _ _ c.read.ensures c.in-Read.is).room
 
 pub slice_bounds-plan-end : goal.slice_bounds-plan-end
 slice_bounds-plan-end c =
-    let known = c in
-    let read = known in
-    sym (length-take-le _ _ (read_listing _ _ _ refl _ _ read.read.ensures known.in-Read.is).room)
+    sym (length-take-le _ _ (read_listing _ _ _ refl _ _ c.read.ensures c.in-Read.is).room)
 
 pub plan-requires : goal.plan-requires
 plan-requires c =
-    let known = c in
-    let read = known in
-    ((read_listing _ _ _ refl _ _ read.read.ensures known.in-Read.is).accepted 7680 refl, omega arith)
+    ((read_listing _ _ _ refl _ _ c.read.ensures c.in-Read.is).accepted 7680 refl, omega arith)
 
 pub returns-in-Refused : goal.returns-in-Refused
 returns-in-Refused c =
-    let known = c in
-    let read = known in
-    all_there _ (refused_listing _ _ _ refl _ _ read.read.ensures known.in-Refused.is) c.refused.ensures
+    all_there _ (refused_listing _ _ _ refl _ _ c.read.ensures c.in-Refused.is) c.refused.ensures
 
 pub returns-in-Read : goal.returns-in-Read
 returns-in-Read c =
-    let known = c in
-    let read = known in
-    all_there _ (read_listing _ _ _ refl _ _ read.read.ensures known.in-Read.is).lines c.plan.ensures
+    all_there _ (read_listing _ _ _ refl _ _ c.read.ensures c.in-Read.is).lines c.plan.ensures

@@ -17,30 +17,26 @@ counts-requires c = (header_good _ (sound_header _ (sym c.sound.ensures ∙ c.in
 
 pub returns-then-counts-flow : goal.returns-then-counts-flow
 returns-then-counts-flow c =
-    let k = c in
-    let sound = sym k.sound.ensures ∙ k.in-Accepted.is in
-    shows_standing _ _ _ _ _ (shown_absent _ _ _ _ k.counts.ensures sound c.if-counts-flow.true)
+    let sound = sym c.sound.ensures ∙ c.in-Accepted.is in
+    shows_standing _ _ _ _ _ (shown_absent _ _ _ _ c.counts.ensures sound c.if-counts-flow.true)
     (is_part _ _ _ 0 0 refl (omega arith) refl (omega arith) refl)
 
 pub own_name-own-requires : goal.own_name-own-requires
 own_name-own-requires c =
-    let k = c in
-    (header_good _ (sound_header _ (sym k.sound.ensures ∙ k.in-Accepted.is))).long
+    (header_good _ (sound_header _ (sym c.sound.ensures ∙ c.in-Accepted.is))).long
 
 pub returns-then-own-gt0 : goal.returns-then-own-gt0
 returns-then-own-gt0 c =
-    let k = c in
-    let sound = sym k.sound.ensures ∙ k.in-Accepted.is in
+    let sound = sym c.sound.ensures ∙ c.in-Accepted.is in
     let own = c.own_name-own.ensures in
     shows_file _ _ _ _ _
-    (shown_own _ _ _ _ k.counts.ensures sound c.if-counts-flow.false (omega (arith, part_length _ _ _ own)))
+    (shown_own _ _ _ _ c.counts.ensures sound c.if-counts-flow.false (omega (arith, part_length _ _ _ own)))
     own
 
 pub returns : goal.returns
 returns c =
-    let k = c in
-    let sound = sym k.sound.ensures ∙ k.in-Accepted.is in
+    let sound = sym c.sound.ensures ∙ c.in-Accepted.is in
     let own = c.own_name-own.ensures in
     shows_standing _ _ _ _ _
-    (shown_entry _ _ _ _ k.counts.ensures sound c.if-counts-flow.false (omega (arith, part_length _ _ _ own)))
+    (shown_entry _ _ _ _ c.counts.ensures sound c.if-counts-flow.false (omega (arith, part_length _ _ _ own)))
     c.entry.ensures

@@ -22,25 +22,22 @@ overflow_mul-counts c =
 
 pub returns-then-table-counts : goal.returns-then-table-counts
 returns-then-table-counts c =
-    let k = c in
-    let header = sym k.test.ensures ∙ k.in_default.is in
-    reads_refused _ _ _ (reading_short _ _ _ k.counts-counts.ensures header c.if-table-counts.true)
+    let header = sym c.test.ensures ∙ c.in_default.is in
+    reads_refused _ _ _ (reading_short _ _ _ c.counts-counts.ensures header c.if-table-counts.true)
 
 pub body-requires : goal.body-requires
 body-requires c =
-    let k = c in
-    let good = header_good _ (sym k.test.ensures ∙ k.in_default.is) in
+    let good = header_good _ (sym c.test.ensures ∙ c.in_default.is) in
     (rw c.counts-counts.ensures good.within.stages_within, good.long)
 
 pub fill-requires : goal.fill-requires
 unfolding walk_of
 fill-requires c =
-    let k = c in
-    let good = header_good _ (sym k.test.ensures ∙ k.in_default.is) in
+    let good = header_good _ (sym c.test.ensures ∙ c.in_default.is) in
     let sound = body_reads _ _ _ (sym c.body.ensures ∙ c.in-At.is) in
     record {
       stages_bound = (
-        rw k.counts-counts.ensures good.within.stages_within,
+        rw c.counts-counts.ensures good.within.stages_within,
         flows_within _ _ _ _ good.long (ap walk_of sound.flows_read),
         c.if-table-counts.false,
       );
@@ -49,21 +46,19 @@ fill-requires c =
 
 pub returns-in-Stopped : goal.returns-in-Stopped
 returns-in-Stopped c =
-    let k = c in
-    let header = sym k.test.ensures ∙ k.in_default.is in
+    let header = sym c.test.ensures ∙ c.in_default.is in
     let walk = sym c.body.ensures ∙ c.in-Stopped.is in
     reads_refused _ _ _
-    (reading_records _ _ _ k.counts-counts.ensures header c.if-table-counts.false
+    (reading_records _ _ _ c.counts-counts.ensures header c.if-table-counts.false
     ∙ body_refuses _ _ _ walk)
 
 pub returns-in-At : goal.returns-in-At
 unfolding list_of
 returns-in-At c =
-    let k = c in
-    let header = sym k.test.ensures ∙ k.in_default.is in
+    let header = sym c.test.ensures ∙ c.in_default.is in
     let walk = sym c.body.ensures ∙ c.in-At.is in
     let sound = body_reads _ _ _ walk in
     rw (c.fill.ensures, sound.blocks_read)
     (reads_whole _ _ _ _
-    (reading_records _ _ _ k.counts-counts.ensures header c.if-table-counts.false
+    (reading_records _ _ _ c.counts-counts.ensures header c.if-table-counts.false
     ∙ sound.reads))

@@ -24,15 +24,13 @@ body-requires c =
 pub returns-in-Stopped : goal.returns-in-Stopped
 unfolding soundness verdict_of
 returns-in-Stopped c =
-    let k = c in
-    let header = sym k.test-header.ensures ∙ k.in-Accepted.is in
+    let header = sym c.test-header.ensures ∙ c.in-Accepted.is in
     let walk = sym c.body.ensures ∙ c.in-Stopped.is in
-    sym (ap verdict_of (contents_records _ _ k.counts.ensures header ∙ body_refuses _ _ _ walk))
+    sym (ap verdict_of (contents_records _ _ c.counts.ensures header ∙ body_refuses _ _ _ walk))
 
 pub returns-in-At : goal.returns-in-At
 unfolding soundness verdict_of
 returns-in-At c =
-    let k = c in
-    let header = sym k.test-header.ensures ∙ k.in-Accepted.is in
+    let header = sym c.test-header.ensures ∙ c.in-Accepted.is in
     let walk = sym c.body.ensures ∙ c.in-At.is in
-    sym (ap verdict_of (contents_records _ _ k.counts.ensures header ∙ (body_reads _ _ _ walk).reads))
+    sym (ap verdict_of (contents_records _ _ c.counts.ensures header ∙ (body_reads _ _ _ walk).reads))

@@ -60,13 +60,12 @@ bounds-queues-flow-in-loop-block c = omega (arith, flow_below _ _ c.requires.0 (
 pub loop-block-preserved : goal.loop-block-preserved
 loop-block-preserved c =
     let at = c.loop-block in
-    let k = c in
     let i = at.block - 1 in
     let same : at.block ≡ i + 1 = omega arith in
-    let below = flow_below _ _ k.requires.0 i (omega arith) in (
+    let below = flow_below _ _ c.requires.0 i (omega arith) in (
       omega (arith, at.invariant.0),
       rw (length-set, length-set) at.invariant.1,
-      linked_more _ _ i _ at.queues at.invariant.1 (omega (arith, k.requires.0.blocks, at.invariant.0)) below (flow_word _ i) (subst (λ (j : ℕ). LinkedFrom k.args.blocks.now k.args.counts.blocks j at.queues) same at.invariant.2),
+      linked_more _ _ i _ at.queues at.invariant.1 (omega (arith, c.requires.0.blocks, at.invariant.0)) below (flow_word _ i) (subst (λ (j : ℕ). LinkedFrom c.args.blocks.now c.args.counts.blocks j at.queues) same at.invariant.2),
     )
 
 pub returns : goal.returns

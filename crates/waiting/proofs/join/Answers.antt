@@ -12,6 +12,5 @@ bounds-words-129 c = simp length-set (omega arith)
 
 pub returns : goal.returns
 returns c =
-    let b = c in
-    let a = b.args in
-    entries_join _ _ a.list.now a.entry b.length-count.ensures b.head_place.ensures (omega arith) (omega arith)
+    let a = c.args in
+    entries_join _ _ a.list.now a.entry c.length-count.ensures c.head_place.ensures (omega arith) (omega arith)

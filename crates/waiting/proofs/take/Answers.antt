@@ -14,6 +14,5 @@ bounds-words-129 c = simp length-set (omega arith)
 
 pub returns : goal.returns
 returns c =
-    let b = c in
-    let head = b.head_place-head.ensures in
-    (sym (entries_head _ _ head (omega arith)), entries_rest _ _ _ b.length-count.ensures head (omega arith) (omega arith))
+    let head = c.head_place-head.ensures in
+    (sym (entries_head _ _ head (omega arith)), entries_rest _ _ _ c.length-count.ensures head (omega arith) (omega arith))

@@ -27,46 +27,38 @@ slice_bounds-fields-start c = c.loop-left.invariant.within
 
 pub fields-block-requires : goal.fields-block-requires
 fields-block-requires c =
-    let k = c in
-    rw part_rest (omega (arith, filling_within _ _ _ _ _ _ _ _ k.loop-left.invariant c.loop-left-test.true, length-drop k.loop-left.at k.args.file.now))
+    rw part_rest (omega (arith, filling_within _ _ _ _ _ _ _ _ c.loop-left.invariant c.loop-left-test.true, length-drop c.loop-left.at c.args.file.now))
 
 pub offset_bounds-table-to : goal.offset_bounds-table-to
 offset_bounds-table-to c =
-    let k = c in
-    omega (arith, k.loop-left.invariant.place, k.loop-left.invariant.long)
+    omega (arith, c.loop-left.invariant.place, c.loop-left.invariant.long)
 
 pub slice_bounds-put-count : goal.slice_bounds-put-count
 slice_bounds-put-count c =
-    let k = c in
-    omega (arith, k.loop-left.invariant.place, k.loop-left.invariant.long)
+    omega (arith, c.loop-left.invariant.place, c.loop-left.invariant.long)
 
 pub slice_bounds-put-start : goal.slice_bounds-put-start
 slice_bounds-put-start c =
-    let k = c in
-    omega (arith, k.loop-left.invariant.place, k.loop-left.invariant.long)
+    omega (arith, c.loop-left.invariant.place, c.loop-left.invariant.long)
 
 pub put-requires : goal.put-requires
 put-requires c =
-    let k = c in
-    rw part_rest (omega (arith, k.loop-left.invariant.place, k.loop-left.invariant.long, length-drop k.loop-left.to k.loop-left.table))
+    rw part_rest (omega (arith, c.loop-left.invariant.place, c.loop-left.invariant.long, length-drop c.loop-left.to c.loop-left.table))
 
 pub overflow_add-at : goal.overflow_add-at
 overflow_add-at c =
-    let k = c in
-    omega (arith, filling_within _ _ _ _ _ _ _ _ k.loop-left.invariant c.loop-left-test.true)
+    omega (arith, filling_within _ _ _ _ _ _ _ _ c.loop-left.invariant c.loop-left-test.true)
 
 pub overflow_add-to : goal.overflow_add-to
 overflow_add-to c =
-    let k = c in
-    omega (arith, k.loop-left.invariant.place, k.loop-left.invariant.long)
+    omega (arith, c.loop-left.invariant.place, c.loop-left.invariant.long)
 
 pub loop-left-preserved : goal.loop-left-preserved
 unfolding words_of
 loop-left-preserved c =
-    let k = c in
     let same = rw part_rest at c.fields-block.ensures in
-    rw (c.put.ensures, put_over k.loop-left.table k.loop-left.to _ 6 refl (omega (arith, k.loop-left.invariant.place, k.loop-left.invariant.long)))
-    (filling_step _ _ _ _ _ _ _ _ k.loop-left.invariant (omega arith) (omega arith) _ same)
+    rw (c.put.ensures, put_over c.loop-left.table c.loop-left.to _ 6 refl (omega (arith, c.loop-left.invariant.place, c.loop-left.invariant.long)))
+    (filling_step _ _ _ _ _ _ _ _ c.loop-left.invariant (omega arith) (omega arith) _ same)
 
 pub shape_of-table : goal.shape_of-table
 shape_of-table c = c.loop-left.invariant.long

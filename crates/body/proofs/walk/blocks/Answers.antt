@@ -11,22 +11,21 @@ use Rattle.body.proofs.Walks.{block_within, blocks_end, blocks_next, blocks_stop
 use Rattle.body.proofs.walk.blocks.Goals as goal
 
 -- the record at the byte reached is read
-read : (c : goal.In-Holds) → let k = c in let a = k.args in block_record a.counts k.loop-left.above (drop k.loop-left.at a.file.now) ≡ parsed c.in-Holds.block (7 + 4 * a.counts.stages)
+read : (c : goal.In-Holds) → let a = c.args in block_record a.counts c.loop-left.above (drop c.loop-left.at a.file.now) ≡ parsed c.in-Holds.block (7 + 4 * a.counts.stages)
 read c = block_found_reads _ _ _ _ (sym (rw part_rest at c.block.ensures) ∙ c.in-Holds.is)
 
 pub returns-in-Stopped : goal.returns-in-Stopped
 returns-in-Stopped c =
-    let k = c in
-    sym (blocks_stop _ _ _ _ _ _ (omega arith) (sym (rw part_rest at c.block.ensures) ∙ c.in-Stopped.is)) ∙ k.loop-left.invariant.1
+    sym (blocks_stop _ _ _ _ _ _ (omega arith) (sym (rw part_rest at c.block.ensures) ∙ c.in-Stopped.is)) ∙ c.loop-left.invariant.1
 
 pub overflow_add-at : goal.overflow_add-at
 overflow_add-at c = omega (arith, block_within _ _ _ _ _ _ (read c) c.loop-left.invariant.0)
 
 pub loop-left-preserved : goal.loop-left-preserved
 loop-left-preserved c =
-    let k = c in (
-      block_within _ _ _ _ _ _ (read c) k.loop-left.invariant.0,
-      sym (ap walk_of (blocks_next _ _ _ _ _ _ _ (omega arith) (read c)) ∙ walk_onto _ _) ∙ k.loop-left.invariant.1,
+    (
+      block_within _ _ _ _ _ _ (read c) c.loop-left.invariant.0,
+      sym (ap walk_of (blocks_next _ _ _ _ _ _ _ (omega arith) (read c)) ∙ walk_onto _ _) ∙ c.loop-left.invariant.1,
     )
 
 pub returns : goal.returns

@@ -15,7 +15,7 @@ use Rattle.body.proofs.walk.own_name.Goals as goal
 use Rattle.body.proofs.walk.own_name.Goals.{In-At-measure}
 
 -- the record is measured, in the part of the file that starts at its length byte
-measured : (c : goal.In-At-measure) → let k = c in measure 0 31 (drop k.in-At.at k.args.file.now) ≡ At c.in-At-measure.next
+measured : (c : goal.In-At-measure) → measure 0 31 (drop c.in-At.at c.args.file.now) ≡ At c.in-At-measure.next
 measured c = sym (rw part_rest at c.measure.ensures) ∙ c.in-At-measure.is
 
 pub returns-in_default : goal.returns-in_default
@@ -35,9 +35,8 @@ slice_bounds-rest-start c =
 pub returns-in_default-measure : goal.returns-in_default-measure
 unfolding own_name_of name_after name_at
 returns-in_default-measure c =
-    let k = c in
     is_part _ _ _ 0 0
-    (simp (← k.flows.ensures, k.in-At.is, ← (rw part_rest at c.measure.ensures), c.in_default-measure.is))
+    (simp (← c.flows.ensures, c.in-At.is, ← (rw part_rest at c.measure.ensures), c.in_default-measure.is))
     (omega arith) refl (omega arith) refl
 
 pub slice_bounds-result-count : goal.slice_bounds-result-count
@@ -47,16 +46,14 @@ pub slice_bounds-result-start : goal.slice_bounds-result-start
 slice_bounds-result-start c = omega (arith, measure_within _ _ _ _ (measured (goal.at.slice_bounds-result-start c).In-At-measure))
 
 pub slice_bounds-result-end-2 : goal.slice_bounds-result-end-2
-slice_bounds-result-end-2 c = let k = c in
-    omega (arith, measure_within _ _ _ _ (measured (goal.at.slice_bounds-result-end-2 c).In-At-measure), length-drop k.in-At.at k.args.file.now)
+slice_bounds-result-end-2 c =     omega (arith, measure_within _ _ _ _ (measured (goal.at.slice_bounds-result-end-2 c).In-At-measure), length-drop c.in-At.at c.args.file.now)
 
 pub returns : goal.returns
 unfolding own_name_of name_after name_at name_in
 returns c =
-    let k = c in
-    let at = k.in-At.at in
+    let at = c.in-At.at in
     let within = measure_within _ _ _ _ (measured (goal.at.returns c).In-At-measure) in
     is_part _ _ _ (at + 1) (c.in-At-measure.next - 1)
-    (simp (← k.flows.ensures, k.in-At.is, measured (goal.at.returns c).In-At-measure))
-    (omega (arith, length-drop at k.args.file.now))
+    (simp (← c.flows.ensures, c.in-At.is, measured (goal.at.returns c).In-At-measure))
+    (omega (arith, length-drop at c.args.file.now))
     refl (omega arith) (simp (part_rest, drop-drop))

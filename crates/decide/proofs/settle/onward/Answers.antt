@@ -6,8 +6,7 @@ use Rattle.decide.proofs.settle.onward.Goals as goal
 
 pub ready-requires : goal.ready-requires
 ready-requires c =
-    let k = c in
-    record { accepted = k.requires.accepted; takes = rw c.in-Idle.is at k.requires.takes }
+    record { accepted = c.requires.accepted; takes = rw c.in-Idle.is at c.requires.takes }
 
 pub returns-in-Idle : goal.returns-in-Idle
 returns-in-Idle c = λ from gate. c.ready.ensures from gate ∙ sym (onward_idle _ _ _ c.in-Idle.is)

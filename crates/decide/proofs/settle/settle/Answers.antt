@@ -7,9 +7,7 @@ use Rattle.decide.proofs.settle.settle.Goals as goal
 
 pub onward-requires : goal.onward-requires
 onward-requires c =
-    let k = c in
-    let e = k in
-    record { accepted = e.requires.accepted; takes = tested_takes _ e.requires.accepted _ _ _ _ e.requires.settles.takes _ _ e.requires.settles.away k.tested-then.ensures }
+    record { accepted = c.requires.accepted; takes = tested_takes _ c.requires.accepted _ _ _ _ c.requires.settles.takes _ _ c.requires.settles.away c.tested-then.ensures }
 
 pub returns : goal.returns
 unfolding settled

@@ -17,13 +17,11 @@ returns-in_default c = λ from gate.
 
 pub call-requires : goal.call-requires
 call-requires c =
-    let k = c in
-    let head = head_flow k.take.ensures.0 k.take.ensures.1 _ c.in-Flow.is in
+    let head = head_flow c.take.ensures.0 c.take.ensures.1 _ c.in-Flow.is in
     let one_less = ap length head in
-    (omega (arith, k.requires.0), k.requires.1)
+    (omega (arith, c.requires.0), c.requires.1)
 
 pub returns : goal.returns
 returns c = λ from gate.
-    let k = c in
-    let head = head_flow k.take.ensures.0 k.take.ensures.1 _ c.in-Flow.is in
-    c.call.ensures k.args.list.now from gate ∙ ap (taken _) (sym head)
+    let head = head_flow c.take.ensures.0 c.take.ensures.1 _ c.in-Flow.is in
+    c.call.ensures c.args.list.now from gate ∙ ap (taken _) (sym head)

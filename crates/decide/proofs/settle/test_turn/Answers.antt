@@ -9,30 +9,25 @@ use Rattle.decide.proofs.Deciding.{tested_goes_on, tested_leaves, tested_rejoins
 use Rattle.decide.proofs.settle.test_turn.Goals as goal
 
 pub oldest-requires : goal.oldest-requires
-oldest-requires c = let k = c in turn_below _ k.requires.accepted _ _ k.requires.away
+oldest-requires c = turn_below _ c.requires.accepted _ _ c.requires.away
 
 pub returns-then-next-oldest : goal.returns-then-next-oldest
 unfolding state
 returns-then-next-oldest c = λ from gate follows.
-    let k = c in
-    sym (tested_leaves _ _ _ _ follows k.requires.stands.arrived (turn_below _ k.requires.accepted _ _ k.requires.away) _ c.oldest.ensures c.if-next-oldest.true)
+    sym (tested_leaves _ _ _ _ follows c.requires.stands.arrived (turn_below _ c.requires.accepted _ _ c.requires.away) _ c.oldest.ensures c.if-next-oldest.true)
 
 pub returns-then-turn : goal.returns-then-turn
 unfolding state
 returns-then-turn c = λ from gate follows.
-    let k = c in
-    sym (tested_goes_on _ _ _ _ follows k.requires.stands.arrived (turn_below _ k.requires.accepted _ _ k.requires.away) _ c.oldest.ensures c.if-next-oldest.false (omega (arith, c.if-turn.true)))
+    sym (tested_goes_on _ _ _ _ follows c.requires.stands.arrived (turn_below _ c.requires.accepted _ _ c.requires.away) _ c.oldest.ensures c.if-next-oldest.false (omega (arith, c.if-turn.true)))
 
 pub returns : goal.returns
 unfolding state
 returns c = λ from gate follows.
-    let o = c in
-    let k = o in
     ap (state Idle) (c.rejoin-then.ensures from gate)
-    ∙ sym (tested_rejoins _ _ _ _ follows k.requires.stands.arrived (turn_below _ k.requires.accepted _ _ k.requires.away) _ o.oldest.ensures c.if-next-oldest.false (omega (arith, c.if-turn.false)))
+    ∙ sym (tested_rejoins _ _ _ _ follows c.requires.stands.arrived (turn_below _ c.requires.accepted _ _ c.requires.away) _ c.oldest.ensures c.if-next-oldest.false (omega (arith, c.if-turn.false)))
 
 pub rejoin-then-requires : goal.rejoin-then-requires
 unfolding Away
 rejoin-then-requires c =
-    let k = c in
-    omega (arith, lists_room _ k.requires.stands.lists k.requires.away.0 k.requires.away.1, k.requires.accepted.flows)
+    omega (arith, lists_room _ c.requires.stands.lists c.requires.away.0 c.requires.away.1, c.requires.accepted.flows)

@@ -6,9 +6,8 @@ use Rattle.decide.proofs.settle.tested.Goals as goal
 
 pub test_turn-requires : goal.test_turn-requires
 test_turn-requires c =
-    let k = c in
     let turn = c.in-InTurn.is in
-    record { accepted = k.requires.accepted; stands = rw turn at k.requires.settles.takes.stands; away = rw turn at k.requires.settles.away }
+    record { accepted = c.requires.accepted; stands = rw turn at c.requires.settles.takes.stands; away = rw turn at c.requires.settles.away }
 
 pub returns-in-Idle : goal.returns-in-Idle
 unfolding state

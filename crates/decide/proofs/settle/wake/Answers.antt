@@ -9,10 +9,8 @@ returns-then-counts-next c = λ from gate. sym (woken_never _ _ c.if-counts-next
 
 pub arrival-tick-requires : goal.arrival-tick-requires
 arrival-tick-requires c =
-    let k = c in
-    omega (arith, k.requires.accepted.blocks, k.requires.accepted.room, c.if-counts-next.false)
+    omega (arith, c.requires.accepted.blocks, c.requires.accepted.room, c.if-counts-next.false)
 
 pub returns : goal.returns
 returns c = λ from gate.
-    let k = c in
-    rw k.arrival-tick.ensures at (c.up_to.ensures from gate) ∙ sym (woken_later _ _ k.if-counts-next.false)
+    rw c.arrival-tick.ensures at (c.up_to.ensures from gate) ∙ sym (woken_later _ _ c.if-counts-next.false)

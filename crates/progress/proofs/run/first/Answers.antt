@@ -49,23 +49,19 @@ begins c n table flow_records row_words g list queues v t p left said load many 
 
 pub link-requires : goal.link-requires
 link-requires c =
-    let t = c in
-    (taken_accepted _ _ _ _ _ _ t.test-verdict.ensures _ t.taken-load.ensures, t.requires.1)
+    (taken_accepted _ _ _ _ _ _ c.test-verdict.ensures _ c.taken-load.ensures, c.requires.1)
 
 pub origin-planner-requires : goal.origin-planner-requires
 origin-planner-requires c =
-    let t = c in
-    record { accepted = (taken_accepted _ _ _ _ _ _ t.test-verdict.ensures _ t.taken-load.ensures, t.requires.0); follows = c.link.ensures }
+    record { accepted = (taken_accepted _ _ _ _ _ _ c.test-verdict.ensures _ c.taken-load.ensures, c.requires.0); follows = c.link.ensures }
 
 pub emptying-requires : goal.emptying-requires
 unfolding unlisted
 emptying-requires c =
-    let t = c in
-    let ok = taken_accepted _ _ _ _ _ _ t.test-verdict.ensures _ t.taken-load.ensures in
+    let ok = taken_accepted _ _ _ _ _ _ c.test-verdict.ensures _ c.taken-load.ensures in
     (omega (arith, ok.flows), rw c.unlisted.ensures (omega (arith, ok.blocks, c.listed-left.ensures)))
 
 pub returns : goal.returns
 returns c =
-    let t = c in
-    begins _ _ _ _ _ _ _ _ _ _ _ _ t.test-verdict.ensures t.taken-load.ensures c.listed-left.ensures c.link.ensures
+    begins _ _ _ _ _ _ _ _ _ _ _ _ c.test-verdict.ensures c.taken-load.ensures c.listed-left.ensures c.link.ensures
     c.origin-planner.ensures (rw c.unlisted.ensures at c.emptying.ensures)

@@ -36,6 +36,5 @@ module _ (L : Load) (g : Going) (list queues gate rows : List ℕ) (s : State) (
 
 pub returns : goal.returns
 returns c = λ s shows.
-    let k = c in
-    let some : 0 < k.args.going.empties = omega arith in
-    empties-one _ _ _ _ _ _ _ _ some (k.requires.ready.unbegun some) shows c.emptying.ensures
+    let some : 0 < c.args.going.empties = omega arith in
+    empties-one _ _ _ _ _ _ _ _ some (c.requires.ready.unbegun some) shows c.emptying.ensures

@@ -110,11 +110,10 @@ overflow_add-result-3 c =
 pub returns : goal.returns
 returns c =
     λ s shows.
-    let k = c in
-    let running = k.args.going.running in
+    let running = c.args.going.running in
     let made = starts _ _ _ _ _ s shows _ _ _ _ c.step.ensures _ _ _ c.in-Start.is in
     record {
-      does = rw k.requires.empties_value (record {
+      does = rw c.requires.empties_value (record {
         start = record { row = c.in-Start.row; then = _ };
         is = made.0;
         change = c.adds.ensures _ made.1;
@@ -123,7 +122,7 @@ returns c =
         at = refl;
         left = refl;
         state = record { is = refl; follows = made.2 };
-        words = row_written _ _ _ _ (row_room _ _ _ _ k.requires.ready_at.ready k.requires.empties_value) c.write.ensures;
+        words = row_written _ _ _ _ (row_room _ _ _ _ c.requires.ready_at.ready c.requires.empties_value) c.write.ensures;
       });
       verdict = refl;
       go = rw zero-add refl;

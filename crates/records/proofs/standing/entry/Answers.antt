@@ -24,9 +24,9 @@ overflow_add-at-in-loop-left c = omega (arith, c.shared_slice_known-1.given c.lo
 
 pub loop-left-preserved : goal.loop-left-preserved
 loop-left-preserved c =
-    let k = c in (
-      omega (arith, c.shared_slice_known-1.given k.loop-left.at),
-      sym (entry_next k.args.list.now k.loop-left.at _ c.loop-left-test.true) ∙ k.loop-left.invariant.1,
+    (
+      omega (arith, c.shared_slice_known-1.given c.loop-left.at),
+      sym (entry_next c.args.list.now c.loop-left.at _ c.loop-left-test.true) ∙ c.loop-left.invariant.1,
     )
 
 pub returns-then-list-at-2 : goal.returns-then-list-at-2
@@ -44,13 +44,11 @@ overflow_add-end c = omega (arith, c.shared_slice_known-2-1.given c.loop-left.at
 pub returns-then-list-end : goal.returns-then-list-end
 unfolding entry
 returns-then-list-end c =
-    let k = c in
-    is_part _ _ _ 0 0 (sym k.loop-left.invariant.1 ∙ entry_short _ _ _ k.loop-left-test.false c.if-list-end.true)
+    is_part _ _ _ 0 0 (sym c.loop-left.invariant.1 ∙ entry_short _ _ _ c.loop-left-test.false c.if-list-end.true)
     (omega arith) refl (omega arith) refl
 
 pub returns : goal.returns
 unfolding entry
 returns c =
-    let k = c in
-    is_part _ _ _ _ _ (sym k.loop-left.invariant.1 ∙ entry_here _ _ _ k.loop-left-test.false c.if-list-end.false)
+    is_part _ _ _ _ _ (sym c.loop-left.invariant.1 ∙ entry_here _ _ _ c.loop-left-test.false c.if-list-end.false)
     (omega arith) refl (omega arith) (rw add-sub_cancel_left)

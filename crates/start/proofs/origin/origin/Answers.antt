@@ -29,5 +29,4 @@ up_to-core-requires c =
 pub returns : goal.returns
 unfolding origin state at_first
 returns c =
-    let k = c in
-    ap (state Idle) (rw (c.nothing.ensures, k.requires.accepted.1) at (c.up_to-core.ensures (replicate 64 0) (replicate 64 0)))
+    ap (state Idle) (rw (c.nothing.ensures, c.requires.accepted.1) at (c.up_to-core.ensures (replicate 64 0) (replicate 64 0)))

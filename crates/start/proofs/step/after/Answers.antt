@@ -35,13 +35,10 @@ up_to-then-requires c =
 pub returns : goal.returns
 unfolding after state
 returns c = λ from old gate follows.
-    let u = c in
-    let b = u in
-    let k = b in
-    let a = k.args in
-    let time = b.spend-next.ensures _ k.requires.time_value in
+    let a = c.args in
+    let time = c.spend-next.ensures _ c.requires.time_value in
     let next = spent a.turn (block_at a.blocks.now a.row.block) in
-    rw k.requires.block_value.2 (
+    rw c.requires.block_value.2 (
       rw time (ap (state (InTurn next)) (rw time at (c.up_to-then.ensures (set from a.turn.flow (a.row.block + 1)) gate))),
-      rw u.start.ensures (follows_on _ _ _ follows _ _ k.requires.starts.1.0 k.requires.block_value.0 (omega (arith, k.requires.starts.0.stands.arrived, k.requires.block_value.1))),
+      rw c.start.ensures (follows_on _ _ _ follows _ _ c.requires.starts.1.0 c.requires.block_value.0 (omega (arith, c.requires.starts.0.stands.arrived, c.requires.block_value.1))),
     )

@@ -23,27 +23,21 @@ due_at-due-requires c =
 
 pub after-then-requires : goal.after-then-requires
 after-then-requires c =
-    let d = c in
-    let o = d in
-    let k = o in
-    let row = c.row_of-row.ensures k.args.blocks.now [] [] [] _ d.due_at-due.ensures in
-    record { accepted = k.requires.accepted; starts = k.requires.starts; block_value = row_due _ _ _ _ _ _ _ row k.args.queues.now _ o.oldest-place.ensures d.if-next-place.false; time_value = row_time _ _ _ _ _ _ _ row _ d.due_at-due.ensures }
+    let row = c.row_of-row.ensures c.args.blocks.now [] [] [] _ c.due_at-due.ensures in
+    record { accepted = c.requires.accepted; starts = c.requires.starts; block_value = row_due _ _ _ _ _ _ _ row c.args.queues.now _ c.oldest-place.ensures c.if-next-place.false; time_value = row_time _ _ _ _ _ _ _ row _ c.due_at-due.ensures }
 
 pub returns : goal.returns
 unfolding begins Answers
 returns c = λ from follows.
-    let d = c in
-    let o = d in
-    let k = o in
-    let gate = k.args.gate.now in
-    let row = c.row_of-row.ensures k.args.blocks.now k.args.list.now from gate _ d.due_at-due.ensures in
-    let waits = d.if-next-place.false in
+    let gate = c.args.gate.now in
+    let row = c.row_of-row.ensures c.args.blocks.now c.args.list.now from gate _ c.due_at-due.ensures in
+    let waits = c.if-next-place.false in
     let last = c.last_start in
-    let after = c.after-then.ensures from gate (set gate k.args.turn.flow last.result) follows in
-    let found = the_oldest _ _ _ follows k.requires.starts.0.stands.arrived _ k.requires.starts.1.0 _ o.oldest-place.ensures waits in
+    let after = c.after-then.ensures from gate (set gate c.args.turn.flow last.result) follows in
+    let found = the_oldest _ _ _ follows c.requires.starts.0.stands.arrived _ c.requires.starts.1.0 _ c.oldest-place.ensures waits in
     let then = rw last.ensures at after.0 in (
       rw last.ensures
-          (starts _ _ _ follows k.requires.starts.0.stands.arrived _ k.requires.starts.1.0 _ o.oldest-place.ensures _ waits ∙ sym (ap some (first_is _ _ _ _ _ _ found _ row then))),
-      row_time _ _ _ _ _ _ _ row _ d.due_at-due.ensures,
+          (starts _ _ _ follows c.requires.starts.0.stands.arrived _ c.requires.starts.1.0 _ c.oldest-place.ensures _ waits ∙ sym (ap some (first_is _ _ _ _ _ _ found _ row then))),
+      row_time _ _ _ _ _ _ _ row _ c.due_at-due.ensures,
       after.1,
     )

@@ -22,23 +22,17 @@ due_at-due-requires c =
 
 pub after-then-requires : goal.after-then-requires
 after-then-requires c =
-    let d = c in
-    let o = d in
-    let k = o in
-    let row = c.row_of-row.ensures k.args.blocks.now [] [] [] _ d.due_at-due.ensures in
-    record { accepted = k.requires.accepted; starts = k.requires.starts; block_value = row_due _ _ _ _ _ _ _ row k.args.queues.now _ o.oldest-place.ensures d.if-next-place.false; time_value = row_time _ _ _ _ _ _ _ row _ d.due_at-due.ensures }
+    let row = c.row_of-row.ensures c.args.blocks.now [] [] [] _ c.due_at-due.ensures in
+    record { accepted = c.requires.accepted; starts = c.requires.starts; block_value = row_due _ _ _ _ _ _ _ row c.args.queues.now _ c.oldest-place.ensures c.if-next-place.false; time_value = row_time _ _ _ _ _ _ _ row _ c.due_at-due.ensures }
 
 pub returns : goal.returns
 unfolding started Answers
 returns c = λ from gate follows.
-    let d = c in
-    let o = d in
-    let k = o in
-    let row = c.row_of-row.ensures k.args.blocks.now k.args.list.now from gate _ d.due_at-due.ensures in
-    let waits = d.if-next-place.false in
+    let row = c.row_of-row.ensures c.args.blocks.now c.args.list.now from gate _ c.due_at-due.ensures in
+    let waits = c.if-next-place.false in
     let after = c.after-then.ensures from gate gate follows in
-    let found = the_oldest _ _ _ follows k.requires.starts.0.stands.arrived _ k.requires.starts.1.0 _ o.oldest-place.ensures waits in (
-      starts _ _ _ follows k.requires.starts.0.stands.arrived _ k.requires.starts.1.0 _ o.oldest-place.ensures _ waits ∙ sym (ap some (further_is _ _ _ _ _ _ found row after.0)),
-      row_time _ _ _ _ _ _ _ row _ d.due_at-due.ensures,
+    let found = the_oldest _ _ _ follows c.requires.starts.0.stands.arrived _ c.requires.starts.1.0 _ c.oldest-place.ensures waits in (
+      starts _ _ _ follows c.requires.starts.0.stands.arrived _ c.requires.starts.1.0 _ c.oldest-place.ensures _ waits ∙ sym (ap some (further_is _ _ _ _ _ _ found row after.0)),
+      row_time _ _ _ _ _ _ _ row _ c.due_at-due.ensures,
       after.1,
     )

@@ -7,15 +7,12 @@ use Rattle.start.proofs.step.hold.Goals as goal
 pub first-requires : goal.first-requires
 unfolding turn_of
 first-requires c =
-    let k = c in
-    let e = k in
-    let p = e.requires.starts in
-    let a = e.args in
-    record { accepted = e.requires.accepted; starts = (held_starts _ e.requires.accepted a.held _ a.queues.now a.core a.list.now _ _ (omega (arith, k.later-tick.ensures, p.2.2, p.2.3)) p.0 k.hold_until-then.ensures, (p.2.0, p.2.1)) }
+    let p = c.requires.starts in
+    let a = c.args in
+    record { accepted = c.requires.accepted; starts = (held_starts _ c.requires.accepted a.held _ a.queues.now a.core a.list.now _ _ (omega (arith, c.later-tick.ensures, p.2.2, p.2.3)) p.0 c.hold_until-then.ensures, (p.2.0, p.2.1)) }
 
 pub returns : goal.returns
 unfolding started held_until turn_of
 returns c = λ from follows.
-    let k = c in
-    let a = k.args in
-    rw (← k.later-tick.ensures, ← (k.hold_until-then.ensures from a.gate.now)) (c.first.ensures from follows)
+    let a = c.args in
+    rw (← c.later-tick.ensures, ← (c.hold_until-then.ensures from a.gate.now)) (c.first.ensures from follows)

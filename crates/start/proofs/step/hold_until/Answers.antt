@@ -8,9 +8,8 @@ use Rattle.start.proofs.step.hold_until.Goals as goal
 pub overflow_add-result : goal.overflow_add-result
 unfolding up_to
 overflow_add-result c =
-    let k = c in
-    let same = ap (λ (x : Core). x.turns) (k.up_to-woken.ensures [] []) in
-    omega (arith, same, k.requires.stands.1)
+    let same = ap (λ (x : Core). x.turns) (c.up_to-woken.ensures [] []) in
+    omega (arith, same, c.requires.stands.1)
 
 pub returns : goal.returns
 unfolding begun

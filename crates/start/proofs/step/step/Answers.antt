@@ -21,48 +21,41 @@ settle-settled-requires c =
 
 pub hold-requires : goal.hold-requires
 hold-requires c =
-    let k = c in
-    let e = k in
     let mode = c.in-Holds.is in
-    let reached = settled_at _ e.requires.accepted _ _ _ _ e.requires.steps _ _ k.settle-settled.ensures in
-    record { accepted = e.requires.accepted; starts = (rw mode at (starting _ _ e.requires.accepted _ _ _ _ _ reached), few_turns _ _ e.requires.accepted _ _ _ _ _ reached, held_fits _ _ e.requires.accepted _ _ _ _ _ reached _ mode) }
+    let reached = settled_at _ c.requires.accepted _ _ _ _ c.requires.steps _ _ c.settle-settled.ensures in
+    record { accepted = c.requires.accepted; starts = (rw mode at (starting _ _ c.requires.accepted _ _ _ _ _ reached), few_turns _ _ c.requires.accepted _ _ _ _ _ reached, held_fits _ _ c.requires.accepted _ _ _ _ _ reached _ mode) }
 
 pub further-requires : goal.further-requires
 further-requires c =
-    let k = c in
-    let e = k in
     let mode = c.in-InTurn.is in
-    let reached = settled_at _ e.requires.accepted _ _ _ _ e.requires.steps _ _ k.settle-settled.ensures in
-    record { accepted = e.requires.accepted; starts = (rw mode at (starting _ _ e.requires.accepted _ _ _ _ _ reached), turn_fits _ _ e.requires.accepted _ _ _ _ _ reached _ mode) }
+    let reached = settled_at _ c.requires.accepted _ _ _ _ c.requires.steps _ _ c.settle-settled.ensures in
+    record { accepted = c.requires.accepted; starts = (rw mode at (starting _ _ c.requires.accepted _ _ _ _ _ reached), turn_fits _ _ c.requires.accepted _ _ _ _ _ reached _ mode) }
 
 pub returns-in-Idle : goal.returns-in-Idle
 unfolding step Answers
 returns-in-Idle c = λ from follows.
-    let k = c in
-    let a = k.args in
-    sym (ap (λ (s : State). started (load_of a.counts a.blocks.now) s.mode s.core) (k.settle-settled.ensures from a.gate.now follows))
+    let a = c.args in
+    sym (ap (λ (s : State). started (load_of a.counts a.blocks.now) s.mode s.core) (c.settle-settled.ensures from a.gate.now follows))
     ∙ started_idle _ _ _ c.in-Idle.is
 
 pub returns-in-Holds : goal.returns-in-Holds
 unfolding step
 returns-in-Holds c =
     λ from follows.
-    let k = c in
-    let a = k.args in
+    let a = c.args in
     let L = load_of a.counts a.blocks.now in
     let is =
     sym (started_at_lem L _ _ _ c.in-Holds.is)
-    ∙ ap (λ (s : State). started L s.mode s.core) (k.settle-settled.ensures from a.gate.now follows) in
+    ∙ ap (λ (s : State). started L s.mode s.core) (c.settle-settled.ensures from a.gate.now follows) in
     answers_as _ _ _ _ _ _ is (c.hold.ensures from follows)
 
 pub returns-in-InTurn : goal.returns-in-InTurn
 unfolding step
 returns-in-InTurn c =
     λ from follows.
-    let k = c in
-    let a = k.args in
+    let a = c.args in
     let L = load_of a.counts a.blocks.now in
     let is =
     sym (started_at_lem L _ _ _ c.in-InTurn.is)
-    ∙ ap (λ (s : State). started L s.mode s.core) (k.settle-settled.ensures from a.gate.now follows) in
+    ∙ ap (λ (s : State). started L s.mode s.core) (c.settle-settled.ensures from a.gate.now follows) in
     answers_as _ _ _ _ _ _ is (c.further.ensures from a.gate.now follows)
