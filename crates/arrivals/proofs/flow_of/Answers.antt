@@ -7,9 +7,6 @@ use Rattle.load.specs.Blocks.{block_of}
 use Rattle.rules.specs.Load.{block_at}
 use Rattle.arrivals.proofs.flow_of.Goals as goal
 
-pub overflow_cast-result : goal.overflow_cast-result
-overflow_cast-result c = omega (arith, c.shared_slice_known-1.given (6 * c.args.block))
-
 pub returns : goal.returns
 unfolding block_at block_of
 returns c = rw (get_or-drop, add-zero)

@@ -3,9 +3,6 @@ use native.Mathlib.Omega.{arith}
 use Rattle.header.specs.Header.{counts_in}
 use Rattle.header.proofs.counts.Goals as goal
 
-pub overflow_cast-result : goal.overflow_cast-result
-overflow_cast-result c = omega (arith, c.shared_slice_known-2-1.given 5)
-
 pub returns : goal.returns
 unfolding counts_in
 returns c = simp (c.two.ensures.0, c.two-2.ensures.0)

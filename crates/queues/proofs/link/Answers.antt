@@ -30,9 +30,6 @@ offset_bounds-blocks-at c = omega (arith, c.requires.0.blocks)
 pub bounds-blocks-at : goal.bounds-blocks-at
 bounds-blocks-at c = omega (arith, c.requires.0.room)
 
-pub overflow_cast-flow : goal.overflow_cast-flow
-overflow_cast-flow c = omega (arith, c.shared_slice_known-1.given (6 * (c.loop-block.block - 1)))
-
 pub offset_bounds-queues-flow : goal.offset_bounds-queues-flow
 offset_bounds-queues-flow c = omega (arith, flow_below _ _ c.requires.0 (c.loop-block.block - 1) (omega arith))
 

@@ -8,9 +8,6 @@ pub returns-then-rest-lt1 : goal.returns-then-rest-lt1
 unfolding measure stop_if
 returns-then-rest-lt1 c = search by_tests
 
-pub overflow_cast-n : goal.overflow_cast-n
-overflow_cast-n c = omega (arith, c.shared_slice_known-1.given 0)
-
 pub returns-then-n-least : goal.returns-then-n-least
 unfolding measure stop_if
 returns-then-n-least c = search by_tests

@@ -13,19 +13,10 @@ returns-then-list-at c =
     is_part _ _ _ 0 0 (sym c.loop-left.invariant.1 ∙ entry_ended _ _ _ c.if-list-at.true)
     (omega arith) refl (omega arith) refl
 
-pub overflow_cast-at : goal.overflow_cast-at
-overflow_cast-at c = omega (arith, c.shared_slice_known-1.given c.loop-left.at)
-
-pub overflow_add-at : goal.overflow_add-at
-overflow_add-at c = omega (arith, c.shared_slice_known-1.given c.loop-left.at)
-
-pub overflow_add-at-in-loop-left : goal.overflow_add-at-in-loop-left
-overflow_add-at-in-loop-left c = omega (arith, c.shared_slice_known-1.given c.loop-left.at)
-
 pub loop-left-preserved : goal.loop-left-preserved
 loop-left-preserved c =
     (
-      omega (arith, c.shared_slice_known-1.given c.loop-left.at),
+      omega arith,
       sym (entry_next c.args.list.now c.loop-left.at _ c.loop-left-test.true) ∙ c.loop-left.invariant.1,
     )
 
@@ -34,12 +25,6 @@ unfolding entry
 returns-then-list-at-2 c =
     is_part _ _ _ 0 0 (sym c.loop-left.invariant.1 ∙ entry_ended _ _ _ c.if-list-at-2.true)
     (omega arith) refl (omega arith) refl
-
-pub overflow_cast-end : goal.overflow_cast-end
-overflow_cast-end c = omega (arith, c.shared_slice_known-2-1.given c.loop-left.at)
-
-pub overflow_add-end : goal.overflow_add-end
-overflow_add-end c = omega (arith, c.shared_slice_known-2-1.given c.loop-left.at)
 
 pub returns-then-list-end : goal.returns-then-list-end
 unfolding entry
