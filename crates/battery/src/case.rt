@@ -1,9 +1,9 @@
 // A case after its head: its parts are read, its call is made, and its line is put on the page.
 use cases::head::{Call, Head};
-use cases::table;
-use libc::STDIN_FILENO;
+use cases::{input, table};
 use load::refusal::Verdict;
 use loadfile::Answer;
+use std::io::Read;
 
 fn sound(out: &mut line::Page, file: &[u8]) -> usize {
     let at = line::text(out, 0, b"sound ");
@@ -61,11 +61,12 @@ fn run<'a>(
     }
 }
 
-fn fill(part: &mut [u8]) -> bool {
-    io::read_full(STDIN_FILENO, part) == part.len()
+fn fill<R: Read>(from: &mut R, part: &mut [u8]) -> bool {
+    input::read_full(from, part) == part.len()
 }
 
-fn fill_and_run(
+fn fill_and_run<R: Read>(
+    from: &mut R,
     out: &mut line::Page,
     call: Call,
     file: &mut [u8],
@@ -73,10 +74,10 @@ fn fill_and_run(
     table: &mut [u32],
     rows: &mut [u64],
 ) -> usize {
-    if !fill(standing) {
+    if !fill(from, standing) {
         return 0;
     }
-    if !fill(file) {
+    if !fill(from, file) {
         return 0;
     }
     run(out, call, file, standing, table, rows)
@@ -85,7 +86,8 @@ fn fill_and_run(
 // Reads what follows the head, and runs the case on parts of just the lengths that the head gives. It answers the length of
 // the case's line, or 0 where the case is malformed: a part is longer than the room for it, the input ends inside, or a
 // plan's parameters are wrong.
-pub fn finish(
+pub fn finish<R: Read>(
+    from: &mut R,
     out: &mut line::Page,
     head: Head,
     file: &mut [u8],
@@ -103,6 +105,7 @@ pub fn finish(
         return 0;
     }
     fill_and_run(
+        from,
         out,
         call,
         &mut file[0..file_end],
