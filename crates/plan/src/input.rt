@@ -1,8 +1,8 @@
-// Standard input and the words on standard error. A read that fails is told from the end of the input.
+// What the program reads, and the words for what it could not do. A read that fails is told from the end of the input.
 ghost use Rattle.std.specs.Prelude.{length};
-ghost use Rattle.plan.specs.Inputs.{Within};
+ghost use Rattle.plan.specs.Inputs.{Taken, TakenOnce, Within};
 
-use libc::{STDERR_FILENO, STDIN_FILENO};
+use std::io::{Read, Write};
 
 #[derive(Clone, Copy)]
 pub enum Input {
@@ -11,23 +11,24 @@ pub enum Input {
 }
 
 // One read. No byte where the room is not empty is the end of the input.
-fn once(room: &mut [u8]) -> Input
-    ensures { Within (length room.old) result }
+fn once<R: Read>(from: &mut R, room: &mut [u8]) -> Input
+    ensures within { Within (length room.old) result }
+    ensures taken { TakenOnce (R.remaining from.old) (R.remaining from.new) room.new result }
 {
-    let answer = libc::read(STDIN_FILENO, room);
-    if answer < 0 {
-        return Input::Failed;
+    match from.read(room) {
+        Ok(count) => Input::Bytes(count),
+        Err(_) => Input::Failed,
     }
-    Input::Bytes(io::count(answer, room))
 }
 
 // Reads until the input ends or the room for it is full.
-pub fn read(file: &mut [u8]) -> Input
-    ensures { Within (length file.old) result }
+pub fn read<R: Read>(from: &mut R, file: &mut [u8]) -> Input
+    ensures within { Within (length file.old) result }
+    ensures taken { Taken (R.remaining from.old) (R.remaining from.new) file.new result }
 {
     let mut got = 0;
     while got < file.len() {
-        let Input::Bytes(more) = once(&mut file[got..]) else {
+        let Input::Bytes(more) = once(from, &mut file[got..]) else {
             return Input::Failed;
         };
         if more == 0 {
@@ -38,6 +39,6 @@ pub fn read(file: &mut [u8]) -> Input
     Input::Bytes(got)
 }
 
-pub fn complain(words: &[u8]) {
-    io::write_all(STDERR_FILENO, words);
+pub fn complain<W: Write>(to: &mut W, words: &[u8]) {
+    let _ = to.write_all(words);
 }

@@ -1,34 +1,37 @@
 // Reads a load file from standard input, plans it and prints the plan.
 #![tactic(auto)]
-ghost use Rattle.std.specs.Prelude.{take, ◌≡◌};
+ghost use Rattle.std.specs.Prelude.{IsTrue, take, ◌≡◌};
+ghost use Rattle.std.specs.Io.KnownBytes.{Appends};
 ghost use Rattle.listing.specs.Listing.{listing as Listing·listing};
 
 mod input;
 
 use input::Input;
 use line::Page;
+use std::io::Write;
 
 // The one write. `file` is there for what is asked: that just its listing is written.
-fn write(file: &[u8], page: &Page, end: usize) -> bool
+fn write<W: Write>(to: &mut W, file: &[u8], page: &Page, end: usize) -> bool
     requires { take end page.now ≡ Listing·listing file.now }
+    ensures { IsTrue result → Appends (W.contents to.old) (W.contents to.new) (Listing·listing file.now) }
 {
-    line::write(page, end)
+    line::write(to, page, end)
 }
 
 // The listing is made on one page, so that it is known before a byte of it is written.
-fn print(file: &[u8]) {
+fn print<W: Write, E: Write>(to: &mut W, complaints: &mut E, file: &[u8]) {
     let mut page = line::empty();
     let end = listing::make(file, &mut page);
-    if !write(file, &page, end) {
-        input::complain(b"plan: cannot write to standard output\n");
+    if !write(to, file, &page, end) {
+        input::complain(complaints, b"plan: cannot write to standard output\n");
     }
 }
 
 // The buffer takes the first 65,536 bytes of the input.
-fn main() {
-    let mut file = io::large_buffer();
-    match input::read(&mut file) {
-        Input::Bytes(n) => print(&file[..n]),
-        Input::Failed => input::complain(b"plan: cannot read standard input\n"),
+fn main(rt: HostRuntime) {
+    let mut file = [0u8; 65_536];
+    match input::read(&mut rt.stdin(), &mut file) {
+        Input::Bytes(n) => print(&mut rt.stdout(), &mut rt.stderr(), &file[..n]),
+        Input::Failed => input::complain(&mut rt.stderr(), b"plan: cannot read standard input\n"),
     }
 }
