@@ -1,5 +1,6 @@
 // Reads a load file from standard input, plans it and prints the plan.
 #![tactic(auto)]
+
 ghost use Rattle.std.specs.Prelude.{IsTrue, take, ◌≡◌};
 ghost use Rattle.std.specs.Io.KnownBytes.{Appends};
 ghost use Rattle.listing.specs.Listing.{listing as Listing·listing};
