@@ -1,5 +1,6 @@
 // Which plan calls are refused: tests 3, 4, 7 and then, block by block, 8 to 11, by the functions that the file reader uses too.
 #![tactic(auto)]
+
 ghost use Rattle.std.specs.Prelude.{◌≡◌, ◌*◌, ◌≤◌, min, length};
 ghost use Rattle.rules.specs.Calls.{blocks_verdict, plan_verdict, short as Calls·short};
 

@@ -1,5 +1,6 @@
 // The accounts of a round. They know no time.
 #![tactic(auto)]
+
 ghost use Rattle.std.specs.Prelude.{◌≡◌, ◌<◌};
 ghost use Rattle.rules.specs.Account.{called as Account·called, noted as Account·noted};
 

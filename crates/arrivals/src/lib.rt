@@ -1,6 +1,7 @@
 // Arrivals up to a tick: a flow joins the list when a block of its arrives and it is neither listed, held nor in its turn. Beside
 // them the planner's state.
 #![tactic(auto)]
+
 ghost use Rattle.std.specs.Prelude.{◌≡◌, ◌-◌, ◌<◌};
 ghost use Rattle.rules.specs.Load.{block_at, load_of};
 ghost use Rattle.rules.specs.Plan.{arrivals, arrived, busy as Plan·busy, up_to};

@@ -1,5 +1,6 @@
 // The dominant time and stage of a block.
 #![tactic(auto)]
+
 ghost use Rattle.std.specs.Prelude.{cond, ◌≡◌, max, leb};
 ghost use Rattle.dominant.specs.Dominant.{dominant_time, dominant_stage};
 

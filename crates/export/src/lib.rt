@@ -2,6 +2,7 @@
 // the crates answer as an enum, a struct or a part of a slice cannot cross the boundary, so it is written as a number and
 // words that the caller lends. Counts are lent as arrays of just their length, which leaves no length to be tested.
 #![tactic(auto)]
+
 ghost use Rattle.std.specs.Prelude.{◌≡◌};
 ghost use Rattle.load.specs.Refusals.{verdict_number};
 ghost use Rattle.loadfile.specs.Calls.{soundness};

@@ -1,5 +1,6 @@
 // The header of a load file: the ten bytes before the records.
 #![tactic(auto)]
+
 ghost use Rattle.std.specs.Prelude.{◌≡◌, ◌≤◌, length};
 ghost use Rattle.header.specs.Header.{counts_in, header_verdict};
 

@@ -1,5 +1,6 @@
 // The lines of a listing, each put behind what the page has. `specs/Lines.antt` has the bytes of each.
 #![tactic(auto)]
+
 ghost use Rattle.std.specs.Prelude.{[], ◌*◌, ◌≤◌, length};
 ghost use Rattle.loadfile.specs.Calls.{shown_name};
 ghost use Rattle.rules.specs.Rows.{row_at, rows_in};

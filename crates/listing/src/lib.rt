@@ -1,5 +1,6 @@
 // What is printed of a load file, made whole before a byte of it is written. `specs/Listing.antt` has its lines.
 #![tactic(auto)]
+
 ghost use Rattle.std.specs.Prelude.{◌≡◌, ◌≤◌, length};
 ghost use Rattle.load.specs.declared.refusal.Verdict.TheVariants.{Accepted};
 ghost use Rattle.line.specs.Pages.{Put};

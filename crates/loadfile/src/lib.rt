@@ -1,6 +1,7 @@
 // Load files of version 1: the soundness call, the reader and the name call. `specs/Layout.antt` says what the bytes mean
 // and in which order a file is refused; the three contracts go by that one definition.
 #![tactic(auto)]
+
 ghost use Rattle.std.specs.Prelude.{◌≡◌};
 ghost use Rattle.loadfile.specs.Calls.{Reads, Shows, soundness};
 

@@ -1,5 +1,6 @@
 // The planner: one load's timetable by Multi-Resource Round Robin. `crates/rules/specs/Plan.antt` is the definition of the plan.
 #![tactic(auto)]
+
 ghost use Rattle.rules.specs.Calls.{Plans};
 
 mod record;

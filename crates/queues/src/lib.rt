@@ -1,6 +1,7 @@
 // The flows' queues: each flow's blocks that aren't started, in the order of the table. They are links through the blocks, made in
 // one pass over the table, so no block is ever searched for.
 #![tactic(auto)]
+
 ghost use Rattle.std.specs.Prelude.{◌≡◌, ◌<◌, replicate};
 ghost use Rattle.rules.specs.Load.{load_of};
 ghost use Rattle.rules.specs.Within.{Accepted};

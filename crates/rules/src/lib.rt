@@ -1,6 +1,7 @@
 // The plan by Multi-Resource Round Robin: the types that its definition and a planner share. `specs/Plan.antt` is the
 // definition, `proofs/` has the theorems about it. There is no function here.
 #![tactic(auto)]
+
 pub mod answer;
 pub mod entry;
 pub mod mode;

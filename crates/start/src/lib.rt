@@ -1,4 +1,5 @@
 // One start: the planner before the first, and the next start with the planner after it.
 #![tactic(auto)]
+
 pub mod origin;
 pub mod step;

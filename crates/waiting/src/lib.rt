@@ -1,6 +1,7 @@
 // The list of waiting flows, each with its excess, in storage that is made here and lent. What is promised speaks of the
 // abstract list of entries alone, so nobody outside depends on where an entry lies or how the entries are counted.
 #![tactic(auto)]
+
 ghost use Rattle.std.specs.Prelude.{◌≡◌, [], ◌∷◌, ◌++◌, length};
 ghost use Rattle.waiting.specs.Entries.{entries, Fits, head_of, place_of_head, rest_of, Room};
 

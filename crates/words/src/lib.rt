@@ -1,5 +1,6 @@
 // An answer as document 01's number, with its counts written into lent words. A refusal has counts of 0.
 #![tactic(auto)]
+
 ghost use Rattle.std.specs.Prelude.{◌≡◌};
 ghost use Rattle.loadfile.specs.Calls.{answer_counts, answer_number as readNumber};
 ghost use Rattle.rules.specs.Calls.{answer_number as planNumber, answer_summary};

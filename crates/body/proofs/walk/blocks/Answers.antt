@@ -22,11 +22,10 @@ pub overflow_add-at : goal.overflow_add-at
 overflow_add-at c = omega (arith, block_within _ _ _ _ _ _ (read c) c.loop-left.invariant.0)
 
 pub loop-left-preserved : goal.loop-left-preserved
-loop-left-preserved c =
-    (
-      block_within _ _ _ _ _ _ (read c) c.loop-left.invariant.0,
-      sym (ap walk_of (blocks_next _ _ _ _ _ _ _ (omega arith) (read c)) ∙ walk_onto _ _) ∙ c.loop-left.invariant.1,
-    )
+loop-left-preserved c = (
+  block_within _ _ _ _ _ _ (read c) c.loop-left.invariant.0,
+  sym (ap walk_of (blocks_next _ _ _ _ _ _ _ (omega arith) (read c)) ∙ walk_onto _ _) ∙ c.loop-left.invariant.1,
+)
 
 pub returns : goal.returns
 unfolding walk_of

@@ -46,7 +46,7 @@ pub slice_bounds-result-start : goal.slice_bounds-result-start
 slice_bounds-result-start c = omega (arith, measure_within _ _ _ _ (measured (goal.at.slice_bounds-result-start c).In-At-measure))
 
 pub slice_bounds-result-end-2 : goal.slice_bounds-result-end-2
-slice_bounds-result-end-2 c =     omega (arith, measure_within _ _ _ _ (measured (goal.at.slice_bounds-result-end-2 c).In-At-measure), length-drop c.in-At.at c.args.file.now)
+slice_bounds-result-end-2 c = omega (arith, measure_within _ _ _ _ (measured (goal.at.slice_bounds-result-end-2 c).In-At-measure), length-drop c.in-At.at c.args.file.now)
 
 pub returns : goal.returns
 unfolding own_name_of name_after name_at name_in

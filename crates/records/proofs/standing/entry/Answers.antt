@@ -14,11 +14,10 @@ returns-then-list-at c =
     (omega arith) refl (omega arith) refl
 
 pub loop-left-preserved : goal.loop-left-preserved
-loop-left-preserved c =
-    (
-      omega arith,
-      sym (entry_next c.args.list.now c.loop-left.at _ c.loop-left-test.true) ∙ c.loop-left.invariant.1,
-    )
+loop-left-preserved c = (
+  omega arith,
+  sym (entry_next c.args.list.now c.loop-left.at _ c.loop-left-test.true) ∙ c.loop-left.invariant.1,
+)
 
 pub returns-then-list-at-2 : goal.returns-then-list-at-2
 unfolding entry
