@@ -1,9 +1,9 @@
 -- The digits of a number, as specs/Numerals.antt defines them, one by one: a number's last digit stands behind those of a tenth of it.
-use Prim.Native.Nat.{ℕ, zero, suc, ◌+◌, ◌/◌, ◌%◌, ◌^◌, ◌≤◌, ◌<◌}
+use Prim.Native.Nat.{ℕ, zero, suc, ◌+◌, ◌-◌, ◌/◌, ◌%◌, ◌^◌, ◌≤◌, ◌<◌}
 use mathlib.Core.Bool.{Bool, true, false, cond}
 use mathlib.Core.Path.{◌≡◌, refl, ap, sym}
 use mathlib.Core.List.{List, [], ◌∷◌, ◌++◌, map}
-use native.Mathlib.Nat.{pow-suc}
+use native.Mathlib.Nat.{one-le-pow, pow-le-pow_right, pow-suc}
 use native.Mathlib.Numerals.{add-one}
 use native.Mathlib.Omega.{arith}
 use borrow.Author.Tests.{lt-ltb, le-ltb}
@@ -37,6 +37,34 @@ pub decimal_next : (n : ℕ) → n < 2 ^ 64 → 10 ≤ n → decimal_of n ≡ de
 decimal_next n fits h =
     rw (decimal_tenth n h) (ap (λ (l : List ℕ). l ++ ((48 + n % 10) ∷ [])) (decimal_fewer (n / 10) (omega arith)))
 
+-- ---- the same digits, taken from the last: as many as hold the number, and no more
+-- n takes k digits in base b, when padded to `width` digits
+abbrev pub IsDigitCount : ℕ → ℕ → ℕ → ℕ → Type 0
+IsDigitCount b width n k = (width ≤ k) × (n < b ^ k) × (width < k → b ^ (k - 1) ≤ n)
+
+last_digit : (n : ℕ) → hex_digit_ascii (n % 10) ≡ 48 + n % 10
+last_digit n = rw (lt-ltb (n % 10) 10 (omega arith))
+
+-- A number that has r + 1 digits, and no more than k + 1.
+spelt : (k r n : ℕ) → n < 10 ^ suc k → n < 10 ^ suc r → (0 < r → 10 ^ r ≤ n) → last_digits 10 (suc r) n ≡ digits_in (suc k) n
+unfolding digits_in
+spelt k zero n fits hi lo =
+    let small : n < 10 = hi in
+    let same : n % 10 ≡ n = omega arith in
+    simp (lt-ltb n 10 small, same)
+spelt zero (suc r) n fits hi lo = absurd (omega (arith, lo (omega arith), pow-suc 10 r, one-le-pow r 10 (omega arith)))
+spelt (suc k) (suc r) n fits hi lo =
+    let low : 10 ≤ n = omega (arith, lo (omega arith), pow-suc 10 r, one-le-pow r 10 (omega arith)) in
+    let rest = spelt k r (n / 10) (omega (arith, pow-suc 10 (suc k))) (omega (arith, pow-suc 10 (suc r))) (λ p. omega (arith, lo (omega arith), pow-suc 10 r)) in
+    rw (le-ltb n 10 low, last_digit n) (ap (λ (l : List ℕ). l ++ ((48 + n % 10) ∷ [])) rest)
+
+pub decimal_digits : (n r : ℕ) → n < 2 ^ 64 → IsDigitCount 10 1 n r → last_digits 10 r n ≡ decimal_of n
+unfolding decimal_of
+decimal_digits n zero h f = absurd (omega (arith, f.0))
+decimal_digits n (suc r) h f =
+    let low : suc r - 1 ≡ r = omega arith in
+    spelt 19 r n (omega arith) f.1 (λ p. rw low at (f.2 (omega arith)))
+
 length_picked : (b : Bool) (xs ys : List ℕ) (m : ℕ) → length xs ≤ m → length ys ≤ m → length (cond b xs ys) ≤ m
 length_picked true xs ys m p q = p
 length_picked false xs ys m p q = q
@@ -52,6 +80,14 @@ unfolding decimal_of
 decimal_length n = digits_fewer 20 n
 
 -- Two digits hold a byte.
+pub hex_fewest : (b r : ℕ) → b < 256 → IsDigitCount 16 2 b r → r ≡ 2
+hex_fewest b zero h f = absurd (omega (arith, f.0))
+hex_fewest b (suc zero) h f = absurd (omega (arith, f.0))
+hex_fewest b (suc (suc zero)) h f = refl
+hex_fewest b (suc (suc (suc r))) h f =
+    let low : 16 ^ 2 ≤ 16 ^ (suc (suc (suc r)) - 1) = pow-le-pow_right (omega arith) {i = 2} (omega arith) in
+    absurd (omega (arith, f.2 (omega arith)))
+
 pub hex_two : (b : ℕ) → b < 256 → last_digits 16 2 b ≡ hex_digit_ascii (b / 16) ∷ hex_digit_ascii (b % 16) ∷ []
 hex_two b h =
     let high : b / 16 % 16 ≡ b / 16 = omega arith in
