@@ -14,7 +14,6 @@ use rules::answer::Planned;
 use rules::record::FlowRecord;
 
 // Lends the plan call the flow records, of which nothing is printed. The plan asks for the first 512 blocks.
-// A function that lends records is proved by hand: it takes them by value, so that no other function lends them.
 fn lend(mut flows: [FlowRecord; 64], counts: Counts, blocks: &[u32], rows: &mut [u64]) -> Planned
     ensures { Asked counts blocks.now rows.old result rows.new }
 {

@@ -10,9 +10,8 @@ use progress::run;
 use rules::answer::Planned;
 use rules::record::FlowRecord;
 
-// The first `limit` blocks of the plan, or all of them: their rows, the flows' records, and the counts. A function that takes
-// the lent records is proved by hand, so the loop decides nothing. It has the one call of `next`: with a second one that is no
-// longer made part of the loop, and a plan takes 1.6 times as long.
+// The first `limit` blocks of the plan, or all of them: their rows, the flows' records, and the counts. The loop decides nothing. It
+// has the one call of `next`: with a second one that is no longer made part of the loop, and a plan takes 1.6 times as long.
 pub fn plan(
     counts: Counts,
     limit: u64,

@@ -7,7 +7,7 @@ use progress::change;
 use progress::change::Change;
 use rules::record::FlowRecord;
 
-// Changes the record of one flow. A function that takes the lent records is proved by hand, so this one decides nothing.
+// Changes the record of one flow.
 pub fn note(flows: &mut [FlowRecord], change: Change)
     requires { (change.flow < length flows.old) × Fits (get_or flows.old change.flow unlisted) change }
     ensures { flows.new ≡ noted flows.old change }
