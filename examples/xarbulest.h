@@ -1,6 +1,6 @@
 /*
- * A planner for file gateways, for C: the calls of the static library libexport.a, which `rt staticlib export` writes to
- * target/staticlib/. It is for Linux on x86-64. crates/export/src/lib.rt has the contract of each call.
+ * A planner for file gateways, for C: the calls of the static library libexport.a, which `rt lib`, in crates/export, writes to
+ * crates/export/out/. It is for Linux on x86-64 (level x86-64-v2). crates/export/src/lib.rt has the contract of each call.
  *
  * A caller in C keeps to what Rust's types would hold it to: no pointer is NULL, also where the length is 0; each has as much
  * memory behind it as is said here, aligned as its type; and memory that a call writes overlaps no other memory lent to it.
