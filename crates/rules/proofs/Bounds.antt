@@ -1,5 +1,5 @@
--- The planner keeps its bounds: each part of a step, on the definitions alone. So they hold in every state of the plan (`reached-within`),
--- and in none are more flows listed than the load has (`reached-few`).
+-- The planner keeps its bounds: each part of a step, on the definitions alone. So they hold in every state of the plan (`reached_within`),
+-- and in none are more flows listed than the load has (`reached_few`).
 use Prim.Native.Nat.{ℕ, ◌+◌, ◌-◌, ◌≤◌, ◌<◌}
 use mathlib.Core.Bool.{Bool, true, false, cond}
 use mathlib.Core.List.{List, [], ◌∷◌}

@@ -1,4 +1,4 @@
--- What the planner decides when stage 1 is free, as one flow's account sees it: `settled-settles`, for all flows with one gain.
+-- What the planner decides when stage 1 is free, as one flow's account sees it: `settled_settles`, for all flows with one gain.
 use Prim.Native.Nat.{ℕ, zero, suc, ◌+◌, ◌-◌, ◌≤◌}
 use mathlib.Core.Bool.{true, false, true≢false, cond}
 use mathlib.Core.List.{List, [], ◌∷◌}

@@ -1,6 +1,6 @@
 -- Demand 3: the plan of every load that the plan call accepts is fair, and so are the rows that the call leaves in the row table where
 -- it answers 0 with a limit that covers all blocks. (`Fair` has the bound, which is eight times for any limit, `Turns` the two-turn
--- limit.) Those rows are the plan's (`call_rows`), each block of the load once (`call-each-block`), so nothing that the load has is left
+-- limit.) Those rows are the plan's (`call_rows`), each block of the load once (`call_each_block`), so nothing that the load has is left
 -- out.
 use Prim.Native.Nat.{ℕ, zero, suc, ◌*◌, ◌≤◌, ◌<◌, min}
 use mathlib.Core.List.{List, [], ◌∷◌, ◌++◌}

@@ -1,9 +1,9 @@
 -- The order in which flows have their turns, round after round. Take first those that have had their turn of the open round or
 -- joined since, then the flow that is held or in its turn, then those that the round still owes a turn. Where a flow is taken, begins
 -- its turn or joins the tail again, and where a round opens, this order stays; flows only join it and leave it. So of two flows that
--- wait the same comes first in each round (`settled-behind`, `started-behind`). A flow that comes first is due nothing where the other
--- begins its turn (`behind-begins`); and of one that doesn't, what it owes above its due is bounded with what is coming to the other
--- (`else-near`).
+-- wait the same comes first in each round (`settled_behind`, `started_behind`). A flow that comes first is due nothing where the other
+-- begins its turn (`behind_begins`); and of one that doesn't, what it owes above its due is bounded with what is coming to the other
+-- (`else_near`).
 use Prim.Native.Nat.{ℕ, suc, ◌+◌, ◌-◌, ◌≤◌}
 use mathlib.Core.Bool.{Bool, true, false, true≢false, ◌&&◌, ◌||◌, and-false, or-true}
 use mathlib.Core.List.{List, [], ◌∷◌, ◌++◌, append_assoc, append-nil}

@@ -1,6 +1,6 @@
--- What the number of the plan call's answer says, from its contract alone. It is the verdict's (`plan-number`), so it is 0 exactly
--- where the load is accepted. Where it isn't 0, the counts are 0 and every word of both lent tables is as before (`plan-refuses`);
--- where it is 0, counts and tables are those of the plan's rows (`plan-accepts`).
+-- What the number of the plan call's answer says, from its contract alone. It is the verdict's (`plan_number`), so it is 0 exactly
+-- where the load is accepted. Where it isn't 0, the counts are 0 and every word of both lent tables is as before (`plan_refuses`);
+-- where it is 0, counts and tables are those of the plan's rows (`plan_accepts`).
 use Prim.Native.Nat.{ℕ, ◌*◌}
 use lib.ListN.{drop, length, replicate}
 use mathlib.Core.List.{List, ◌++◌}

@@ -1,6 +1,6 @@
 -- The two-turn limit of demand 3. A flow's turn begins only when its gate, the last stage's start of its turn before, is reached,
--- and by then all that started earlier has finished. So from a gate after t on no turn begins by t (`none-begins`), from a finish
--- after t on at most one does (`one-begins`), and a turn that is open at t leaves at most one more (`two-open`).
+-- and by then all that started earlier has finished. So from a gate after t on no turn begins by t (`none_begins`), from a finish
+-- after t on at most one does (`one_begins`), and a turn that is open at t leaves at most one more (`two_open`).
 use Prim.Native.Nat.{ℕ, zero, suc, ◌+◌, ◌≤◌, ◌<◌}
 use mathlib.Core.Bool.{Bool, true, false, cond, ◌&&◌}
 use mathlib.Core.List.{List, ◌∷◌}

@@ -1,5 +1,5 @@
 -- Demand 3, in terms of a load and its rows alone. Of no rows it says nothing: it is meant of rows that are each block of the load
--- once (`EachBlockOnce`), as those of a plan are whose limit covers all blocks (`plan-each-block`).
+-- once (`EachBlockOnce`), as those of a plan are whose limit covers all blocks (`plan_each_block`).
 use Rattle.std.specs.Prelude.{ℕ, zero, suc, ◌+◌, ◌*◌, ◌-◌, ◌≤◌, ◌<◌, max, min, Bool, true, false, cond, ◌&&◌, ◌||◌, List, [], ◌∷◌, ◌≡◌, eqb, leb, ltb}
 use Rattle.dominant.specs.Dominant.{dominant_time}
 use Rattle.rules.specs.declared.row.Row.{Row}

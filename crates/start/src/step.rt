@@ -4,7 +4,7 @@ ghost use Rattle.dominant.specs.Dominant.{dominant_time};
 ghost use Rattle.load.specs.declared.block.Block.{Block};
 ghost use Rattle.rules.specs.declared.mode.Mode.TheVariants.{Holds, InTurn};
 ghost use Rattle.rules.specs.Load.{block_at, load_of};
-ghost use Rattle.rules.specs.Plan.{after as Plan·after, begins, begun, row_of, spent, started, step as Plan-step, up_to};
+ghost use Rattle.rules.specs.Plan.{after as Plan·after, begins, begun, row_of, spent, started, step as Plan·step, up_to};
 ghost use Rattle.rules.specs.Within.{Accepted};
 ghost use Rattle.waiting.specs.Entries.{entries};
 ghost use Rattle.queues.specs.Queues.{Follows, oldest_in};
@@ -264,7 +264,7 @@ pub fn step(
     requires steps { Steps (load_of counts blocks.now) planner list.old queues.old gate.old }
     ensures { (from : List ℕ) → Follows (load_of counts blocks.now) from queues.old
         → Answers (load_of counts blocks.now) result list.new queues.new gate.new from
-        (Plan-step (load_of counts blocks.now) (state_of planner list.old from gate.old)) }
+        (Plan·step (load_of counts blocks.now) (state_of planner list.old from gate.old)) }
 {
     let settled = settle::settle(counts, blocks, planner, list, queues);
     let mode = settled.mode;
