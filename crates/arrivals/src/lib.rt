@@ -33,7 +33,7 @@ fn busy(mode: Mode, flow: usize) -> bool
 
 // A block of a flow arrives after the first `next`. Where an older one waits, the flow is known already: the list is not searched.
 fn arrive(mode: Mode, flow: usize, next: usize, list: &mut Storage, queues: &Queues)
-    requires flow_lt_most { (flow < most) × Lists most (entries list.old) }
+    requires in_range { (flow < most) × Lists most (entries list.old) }
     requires tells { Tells mode queues.now next (entries list.old) flow }
     ensures { entries list.new ≡ arrived mode flow (entries list.old) }
 {

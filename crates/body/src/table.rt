@@ -10,8 +10,8 @@ use records::record;
 
 // Writes the blocks whose records start at `from`, and leaves the room beyond them.
 pub fn fill(file: &[u8], counts: Counts, from: usize, table: &mut [u32])
-    requires stages_bound { (counts.stages ≤ 4) × (from ≤ length file.now) × (6 * counts.blocks ≤ length table.old) }
-    requires from_value { walk_of (block_records file.now counts 0 counts.blocks from) ≡ At (length file.now) }
+    requires in_range { (counts.stages ≤ 4) × (from ≤ length file.now) × (6 * counts.blocks ≤ length table.old) }
+    requires sound { walk_of (block_records file.now counts 0 counts.blocks from) ≡ At (length file.now) }
     ensures { table.new
         ≡ table_words (list_of (block_records file.now counts 0 counts.blocks from)) ++ drop (6 * counts.blocks) table.old }
 {

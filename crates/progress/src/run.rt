@@ -132,8 +132,8 @@ fn start(
     gate: &mut [u64; 64],
     rows: &mut [u64],
 ) -> Going
-    requires ready_at { ReadyAt (load_of counts blocks.now) going list.old queues.old gate.old (length rows.old) }
-    requires empties_value { going.empties ≡ 0 }
+    requires ready { ReadyAt (load_of counts blocks.now) going list.old queues.old gate.old (length rows.old) }
+    requires emptied { going.empties ≡ 0 }
     ensures { (s : State) → Shows (load_of counts blocks.now) going list.old queues.old gate.old s
         → Moves (load_of counts blocks.now) going s rows.old
         result (Shows (load_of counts blocks.now) result list.new queues.new gate.new) rows.new }

@@ -108,8 +108,8 @@ fn after(
 ) -> Planner
     requires accepted { Accepted (load_of counts blocks.now) }
     requires starts { Starts (load_of counts blocks.now) (InTurn turn) queues.old core (entries list.old) × TurnFits turn }
-    requires block_value { (row.block ≡ oldest_in queues.old turn.flow) × (row.block < core.next) × (row.flow ≡ turn.flow) }
-    requires time_value { time ≡ dominant_time (block_at blocks.now row.block) }
+    requires oldest { (row.block ≡ oldest_in queues.old turn.flow) × (row.block < core.next) × (row.flow ≡ turn.flow) }
+    requires dominant { time ≡ dominant_time (block_at blocks.now row.block) }
     ensures { (from old gate : List ℕ) → Follows (load_of counts blocks.now) from queues.old
         → (state_of result list.new (past from row) gate ≡ Plan·after (load_of counts blocks.now) (core_of core list.old from old) turn gate row)
         × Follows (load_of counts blocks.now) (past from row) queues.new }

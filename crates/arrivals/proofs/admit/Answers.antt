@@ -1,5 +1,5 @@
 -- `arrivals::admit` meets its contract: at each turn what is left to be taken, from the line reached, gives the whole line.
-use Prim.Native.Nat.{◌-◌, ◌<◌}
+use Prim.Native.Nat.{◌<◌}
 use mathlib.Core.Path.{refl, sym, ◌∙◌}
 use native.Mathlib.Omega.{arith}
 use Rattle.rules.proofs.Lists.{lists_more}
@@ -29,7 +29,7 @@ arrive-requires c =
     let at = c.loop-next in
     let flow = c.flow_of.result in
     let below : flow < most = rw c.flow_of.ensures (omega (arith, k.flows, (k.each at.next (omega arith)).flow)) in
-    record { flow_lt_most = (below, lists_more k.flows at.invariant.0.lists); tells = stands_tells _ _ _ _ _ at.invariant.0 _ below }
+    record { in_range = (below, lists_more k.flows at.invariant.0.lists); tells = stands_tells _ _ _ _ _ at.invariant.0 _ below }
 
 pub loop-next-preserved : goal.loop-next-preserved
 loop-next-preserved c =

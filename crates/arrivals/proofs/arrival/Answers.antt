@@ -1,6 +1,4 @@
 -- `arrivals::arrival` meets its contract: the second of the block's six words.
-use Prim.Native.Nat.{◌*◌, ◌+◌}
-use native.Mathlib.Omega.{arith}
 use lib.Seq.{get_or-drop}
 use Rattle.load.specs.Blocks.{block_of}
 use Rattle.rules.specs.Load.{block_at}

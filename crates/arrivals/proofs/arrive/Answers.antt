@@ -29,7 +29,7 @@ returns-then-busy c = simp (← c.busy.ensures, c.if-busy.true)
 
 pub join-requires : goal.join-requires
 join-requires c =
-    lists_room _ c.requires.flow_lt_most.1 c.requires.flow_lt_most.0 (not_listed _ _ _ _ _ c.requires.tells (omega (arith, c.oldest.ensures, c.if-oldest-next.false)))
+    lists_room _ c.requires.in_range.1 c.requires.in_range.0 (not_listed _ _ _ _ _ c.requires.tells (omega (arith, c.oldest.ensures, c.if-oldest-next.false)))
 
 pub returns : goal.returns
 unfolding arrived

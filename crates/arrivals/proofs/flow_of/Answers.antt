@@ -1,7 +1,5 @@
 -- `arrivals::flow_of` meets its contract: the first of the block's six words.
-use Prim.Native.Nat.{◌*◌}
 use native.Mathlib.Nat.{add-zero}
-use native.Mathlib.Omega.{arith}
 use lib.Seq.{get_or-drop}
 use Rattle.load.specs.Blocks.{block_of}
 use Rattle.rules.specs.Load.{block_at}

@@ -1,5 +1,4 @@
 -- `header::counts` meets its contract: the three numbers are read where the header has them.
-use native.Mathlib.Omega.{arith}
 use Rattle.header.specs.Header.{counts_in}
 use Rattle.header.proofs.counts.Goals as goal
 

@@ -1,6 +1,6 @@
 -- `lines::rows` meets its contract. Of the page so far the invariant says what it is for: whatever puts the lines of the rows that are left
 -- behind it, puts the lines of all rows behind what was there. The measure is how many are left.
-use Prim.Native.Nat.{◌+◌, ◌-◌, ◌*◌, ◌≤◌}
+use Prim.Native.Nat.{◌+◌, ◌*◌, ◌≤◌}
 use lib.ListN.{length}
 use Rattle.rules.specs.Rows.{rows_in}
 use Rattle.line.specs.Pages.{room}

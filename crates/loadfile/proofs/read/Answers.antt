@@ -36,12 +36,12 @@ fill-requires c =
     let good = header_good _ (sym c.test.ensures ∙ c.in_default.is) in
     let sound = body_reads _ _ _ (sym c.body.ensures ∙ c.in-At.is) in
     record {
-      stages_bound = (
+      in_range = (
         rw c.counts-counts.ensures good.within.stages_within,
         flows_within _ _ _ _ good.long (ap walk_of sound.flows_read),
         c.if-table-counts.false,
       );
-      from_value = ap walk_of sound.blocks_read;
+      sound = ap walk_of sound.blocks_read;
     }
 
 pub returns-in-Stopped : goal.returns-in-Stopped

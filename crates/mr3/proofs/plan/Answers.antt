@@ -1,6 +1,5 @@
 -- `mr3::plan` meets its contract: before the first start `Turn` holds, each thing noted keeps it, and at the end it is what the call promises.
-use mathlib.Core.Path.{refl, ◌∙◌}
-use native.Mathlib.Omega.{arith}
+use mathlib.Core.Path.{refl}
 use Rattle.queues.specs.Queues.{unlinked}
 use Rattle.mr3.proofs.Goes.{Noted, turn_ends, turn_first, turn_next, turn_ready}
 use Rattle.mr3.proofs.plan.Goals as goal

@@ -1,5 +1,5 @@
 -- `queues::link` meets its contract: at each turn the blocks from the one reached on are linked.
-use Prim.Native.Nat.{◌-◌, ◌≤◌}
+use Prim.Native.Nat.{◌≤◌}
 use mathlib.Core.Path.{◌≡◌}
 use lib.ListN.{length}
 use Rattle.queues.specs.Queues.{size}

@@ -11,9 +11,9 @@ pub loop-left-init : goal.loop-left-init
 loop-left-init c =
     record {
       above = 0;
-      within = c.requires.stages_bound.1;
+      within = c.requires.in_range.1;
       place = omega arith;
-      walk = c.requires.from_value;
+      walk = c.requires.sound;
       long = refl;
       kept = refl;
       words = refl;

@@ -51,9 +51,9 @@ row_written rows at r rest fits e = rw e (put_over rows at (row_words r) 15 refl
 pub step-requires : goal.step-requires
 step-requires c =
     let k = c.requires in
-    let ready = k.ready_at.ready in
-    let shows = k.ready_at.shows in
-    record { accepted = ready.accepted; steps = record { from = k.ready_at.state.core.from; follows = shows.follows; starts = ready.runs.starts; more = omega (arith, ready.runs.few, to_start _ _ _ _ ready k.empties_value); reached = rw (← shows.is) at ready.runs.reached } }
+    let ready = k.ready.ready in
+    let shows = k.ready.shows in
+    record { accepted = ready.accepted; steps = record { from = k.ready.state.core.from; follows = shows.follows; starts = ready.runs.starts; more = omega (arith, ready.runs.few, to_start _ _ _ _ ready k.emptied); reached = rw (← shows.is) at ready.runs.reached } }
 
 pub emptying-requires : goal.emptying-requires
 unfolding unlisted
@@ -62,50 +62,50 @@ emptying-requires c = (omega arith, rw c.unlisted.ensures (omega arith))
 pub returns-in_default : goal.returns-in_default
 returns-in_default c =
     let k = c.requires in
-    never_done _ _ _ _ k.ready_at.ready k.empties_value (stops _ _ _ _ _ _ k.ready_at.shows _ _ _ _ c.step.ensures c.in_default.is)
+    never_done _ _ _ _ k.ready.ready k.emptied (stops _ _ _ _ _ _ k.ready.shows _ _ _ _ c.step.ensures c.in_default.is)
 
 pub offset_bounds-rows-at : goal.offset_bounds-rows-at
 offset_bounds-rows-at c =
-    let ready = c.requires.ready_at.ready in
+    let ready = c.requires.ready.ready in
     omega (arith, ready.runs.at, starts_few _ _ _ _ ready)
 
 pub slice_bounds-write-count : goal.slice_bounds-write-count
 slice_bounds-write-count c =
     let k = c.requires in
-    omega (arith, row_room _ _ _ _ k.ready_at.ready k.empties_value)
+    omega (arith, row_room _ _ _ _ k.ready.ready k.emptied)
 
 pub slice_bounds-write-start : goal.slice_bounds-write-start
 slice_bounds-write-start c =
     let k = c.requires in
-    omega (arith, row_room _ _ _ _ k.ready_at.ready k.empties_value)
+    omega (arith, row_room _ _ _ _ k.ready.ready k.emptied)
 
 pub write-requires : goal.write-requires
 write-requires c =
     let k = c.requires in
-    rw (part_rest, length-drop) (omega (arith, row_room _ _ _ _ k.ready_at.ready k.empties_value))
+    rw (part_rest, length-drop) (omega (arith, row_room _ _ _ _ k.ready.ready k.emptied))
 
 pub overflow_sub-left : goal.overflow_sub-left
 overflow_sub-left c =
     let k = c.requires in
-    omega (arith, to_start _ _ _ _ k.ready_at.ready k.empties_value)
+    omega (arith, to_start _ _ _ _ k.ready.ready k.emptied)
 
 pub overflow_add-result : goal.overflow_add-result
 overflow_add-result c =
-    let ready = c.requires.ready_at.ready in
+    let ready = c.requires.ready.ready in
     omega (arith, ready.runs.at, starts_few _ _ _ _ ready)
 
 pub overflow_add-result-2 : goal.overflow_add-result-2
 overflow_add-result-2 c =
-    let ready = c.requires.ready_at.ready in
+    let ready = c.requires.ready.ready in
     omega (arith, ready.runs.few_held, starts_few _ _ _ _ ready, c.one_if.ensures, one_most (ltb 0 c.in-Start.row.hold))
 
 pub overflow_add-result-3 : goal.overflow_add-result-3
 unfolding latest
 overflow_add-result-3 c =
     let k = c.requires in
-    let ready = k.ready_at.ready in
-    let made = starts _ _ _ _ _ _ k.ready_at.shows _ _ _ _ c.step.ensures _ _ _ c.in-Start.is in
-    omega (arith, ready.runs.few_ticks, starts_few _ _ _ _ ready, (row_within _ _ _ _ ready k.empties_value _ made.0).hold)
+    let ready = k.ready.ready in
+    let made = starts _ _ _ _ _ _ k.ready.shows _ _ _ _ c.step.ensures _ _ _ c.in-Start.is in
+    omega (arith, ready.runs.few_ticks, starts_few _ _ _ _ ready, (row_within _ _ _ _ ready k.emptied _ made.0).hold)
 
 pub returns : goal.returns
 returns c =
@@ -113,7 +113,7 @@ returns c =
     let running = c.args.going.running in
     let made = starts _ _ _ _ _ s shows _ _ _ _ c.step.ensures _ _ _ c.in-Start.is in
     record {
-      does = rw c.requires.empties_value (record {
+      does = rw c.requires.emptied (record {
         start = record { row = c.in-Start.row; then = _ };
         is = made.0;
         change = c.adds.ensures _ made.1;
@@ -122,7 +122,7 @@ returns c =
         at = refl;
         left = refl;
         state = record { is = refl; follows = made.2 };
-        words = row_written _ _ _ _ (row_room _ _ _ _ c.requires.ready_at.ready c.requires.empties_value) c.write.ensures;
+        words = row_written _ _ _ _ (row_room _ _ _ _ c.requires.ready.ready c.requires.emptied) c.write.ensures;
       });
       verdict = refl;
       go = rw zero-add refl;

@@ -1,5 +1,4 @@
 -- `records::record::measure` meets its contract: at each return the tests that led there say which case of `measure` holds.
-use native.Mathlib.Omega.{arith}
 use Rattle.load.proofs.Cases.{by_tests}
 use Rattle.records.specs.Records.{measure, stop_if}
 use Rattle.records.proofs.record.measure.Goals as goal

@@ -1,5 +1,4 @@
 -- `records::record::printable` meets its contract: the bytes from i on are name bytes exactly if all are.
-use Prim.Native.Nat.{◌-◌}
 use borrow.Author.Rules.{rules}
 use lib.ListN.{drop_of_length-le}
 use Rattle.load.proofs.Cases.{by_tests}

@@ -24,7 +24,7 @@ due_at-due-requires c =
 pub after-then-requires : goal.after-then-requires
 after-then-requires c =
     let row = c.row_of-row.ensures c.args.blocks.now [] [] [] _ c.due_at-due.ensures in
-    record { accepted = c.requires.accepted; starts = c.requires.starts; block_value = row_due _ _ _ _ _ _ _ row c.args.queues.now _ c.oldest-place.ensures c.if-next-place.false; time_value = row_time _ _ _ _ _ _ _ row _ c.due_at-due.ensures }
+    record { accepted = c.requires.accepted; starts = c.requires.starts; oldest = row_due _ _ _ _ _ _ _ row c.args.queues.now _ c.oldest-place.ensures c.if-next-place.false; dominant = row_time _ _ _ _ _ _ _ row _ c.due_at-due.ensures }
 
 pub returns : goal.returns
 unfolding begins Answers
