@@ -10,7 +10,7 @@ use load::refusal::Refusal;
 pub fn test(counts: Counts) -> Result<(), Refusal>
     ensures { result ≡ counts_verdict counts }
 {
-    if counts.stages < 1 || 4 < counts.stages {
+    if !(1..=4).contains(&counts.stages) {
         return Err(Refusal::Stages);
     }
     if 64 < counts.flows || 1024 < counts.blocks {

@@ -1,14 +1,12 @@
--- Laws of one record: name bytes one at a time, and that a record which is read lies within the bytes given.
+-- Laws of one record: what its tests say of one that is read, and that it lies within the bytes given.
 use Prim.Native.Nat.{ℕ, ◌+◌, ◌*◌, ◌≤◌, ◌<◌}
-use mathlib.Core.Bool.{Bool, true, false, ◌&&◌}
+use mathlib.Core.Bool.{Bool, true, false}
 use mathlib.Core.List.{List}
 use mathlib.Core.Path.{◌≡◌, refl}
-use native.Mathlib.Numerals.{add-one}
 use native.Mathlib.Omega.{arith}
 use borrow.Author.Tests.{ltb-false, leb-false}
-use lib.Dec.{leb, ltb}
-use lib.ListN.{length, get_or, drop}
-use lib.Seq.{drop-cons}
+use lib.Dec.{ltb}
+use lib.ListN.{length, get_or}
 use Rattle.std.specs.Prelude.{Ok, Err}
 use Rattle.load.specs.declared.block.Block.{Block}
 use Rattle.load.specs.declared.counts.Counts.{Counts}
@@ -16,11 +14,7 @@ use Rattle.load.specs.declared.refusal.Refusal.{Refusal}
 use Rattle.load.specs.Refusals.{Verdict}
 use Rattle.load.proofs.Cases.{or_false}
 use Rattle.records.specs.Answers.{block_found}
-use Rattle.records.specs.Records.{Parsed, Walk, refused, parsed, stop_if, unless, measure, name_bytes, flow_measured, flow_record, block_in, block_measured, block_record}
-
-pub name_bytes_step : (s : List ℕ) (i : ℕ) → i < length s → name_bytes (drop i s) ≡ leb 33 (get_or s i 0) && leb (get_or s i 0) 126 && name_bytes (drop (i + 1) s)
-unfolding name_bytes
-name_bytes_step s i h = rw (add-one, drop-cons s i 0) refl
+use Rattle.records.specs.Records.{Parsed, Walk, refused, parsed, stop_if, unless, measure, flow_measured, flow_record, block_in, block_measured, block_record}
 
 -- what a chain of tests that lets a record pass says of each test
 stop_passed : (b : Bool) (r : Refusal) (w : Walk) (at : ℕ) → stop_if b r w ≡ Ok at → (b ≡ false) × (w ≡ Ok at)

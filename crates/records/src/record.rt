@@ -14,31 +14,18 @@ use load::refusal::Refusal;
 pub fn measure(rest: &[u8], least: usize, most: usize) -> Result<usize, Refusal>
     ensures { result ≡ Layout·measure least most rest.now }
 {
-    if rest.is_empty() {
+    let size = usize::from(*rest.first().ok_or(Refusal::Record)?);
+    if !(least..=most).contains(&size) || rest.len() <= size {
         return Err(Refusal::Record);
     }
-    let n = usize::from(rest[0]);
-    if n < least || most < n || rest.len() <= n {
-        return Err(Refusal::Record);
-    }
-    Ok(1 + n)
+    Ok(1 + size)
 }
 
 // Whether each byte is from 33 to 126.
 fn printable(name: &[u8]) -> bool
     ensures { result ≡ name_bytes name.now }
 {
-    let mut i = 0;
-    while i < name.len() {
-        if name[i] < 33 {
-            return false;
-        }
-        if 126 < name[i] {
-            return false;
-        }
-        i += 1;
-    }
-    true
+    name.iter().all(|byte| (33..=126).contains(byte))
 }
 
 // A flow's record: 5, then 6.
