@@ -1,4 +1,5 @@
 -- `arrivals::arrival` meets its contract: the second of the block's six words.
+use mathlib.Core.Path.{refl, ◌∙◌}
 use lib.Seq.{get_or-drop}
 use Rattle.load.specs.Blocks.{block_of}
 use Rattle.rules.specs.Load.{block_at}
@@ -6,4 +7,4 @@ use Rattle.arrivals.proofs.arrival.Goals as goal
 
 pub returns : goal.returns
 unfolding block_at block_of
-returns c = rw get_or-drop
+returns c = c.from.ensures ∙ rw get_or-drop refl
