@@ -1,5 +1,5 @@
 -- Each call determines its answer, and the planner that it leaves.
-use Rattle.std.proofs.Common.{◌≡◌, List, [], sym, ap, ◌∙◌}
+use Rattle.std.proofs.Common.{◌≡◌, ℕ, List, [], sym, ap, ◌∙◌}
 use Rattle.load.proofs.Once.{OneAnswer, OneExit}
 use Rattle.rules.specs.declared.entry.Entry.{Entry}
 use Rattle.rules.specs.declared.mode.Mode.{Mode}
@@ -20,18 +20,18 @@ planner_of m c queues = record {
   gate = c.gate;
 }
 
-pub same_planner : (p q : Planner) → p.mode ≡ q.mode → core_of p [] ≡ core_of q [] → p.queues ≡ q.queues → p ≡ q
-same_planner p q modes cores queues =
-    ap (λ (m : Mode). planner_of m (core_of p []) p.queues) modes
+pub same_planner : (p q : Planner) (from : List ℕ) → p.mode ≡ q.mode → core_of p from ≡ core_of q from → p.queues ≡ q.queues → p ≡ q
+same_planner p q from modes cores queues =
+    ap (λ (m : Mode). planner_of m (core_of p from) p.queues) modes
     ∙ ap (λ (c : plan.Core). planner_of q.mode c p.queues) cores
-    ∙ ap (planner_of q.mode (core_of q [])) queues
+    ∙ ap (planner_of q.mode (core_of q from)) queues
 
 pub arrival_once : OneAnswer arrival.Post
 arrival_once κs a r r' s s' p q = p ∙ sym q
 
 pub up_to_once : OneExit up_to_lem.Post {A = Planner} (λ κs s. s.1.0.now)
 up_to_once κs a r r' s s' p q =
-    same_planner _ _ (p.mode ∙ sym q.mode) (p.core [] ∙ sym (q.core [])) (p.queues ∙ sym q.queues)
+    same_planner _ _ [] (p.mode ∙ sym q.mode) (p.core [] ∙ sym (q.core [])) (p.queues ∙ sym q.queues)
 
 pub up_to_leaves_once : OneExit up_to_lem.Post {A = List Entry} (λ κs s. s.1.0.now.list)
 up_to_leaves_once κs a r r' s s' p q = ap (λ (c : plan.Core). c.line.wait) (p.core [] ∙ sym (q.core []))

@@ -19,6 +19,7 @@ use rules::entry::Entry;
 use rules::mode::Mode;
 
 // Whether a flow is held or in its turn.
+#[tactic(auto, unfolding(rules::specs::Plan::busy))]
 fn busy(mode: Mode, flow: usize) -> bool
     ensures { result ≡ Plan·busy mode flow }
 {
@@ -42,6 +43,7 @@ fn arrive(planner: &mut Planner, flow: usize)
 }
 
 // The tick at which a block arrives.
+#[tactic(auto, unfolding(rules::specs::Load::block_at, load::specs::Blocks::block_of))]
 pub fn arrival(blocks: &[u32], block: usize) -> u64
     requires { HasBlock blocks.now block }
     ensures { result ≡ (block_at blocks.now block).arrival }
@@ -49,6 +51,7 @@ pub fn arrival(blocks: &[u32], block: usize) -> u64
     u64::from(blocks[6 * block + 1])
 }
 
+#[tactic(auto, unfolding(rules::specs::Load::block_at, load::specs::Blocks::block_of))]
 fn flow_of(blocks: &[u32], block: usize) -> usize
     requires { HasBlock blocks.now block }
     ensures { result ≡ (block_at blocks.now block).flow }
