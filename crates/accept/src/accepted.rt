@@ -17,6 +17,7 @@ pub struct Load<'a> {
 }
 
 // The load of a call, where every test is passed, and else the refusal that applies first.
+#[tactic(auto, using(rules::proofs::Accepting::accepted))]
 pub fn accept<'a>(
     counts: Counts,
     limit: u64,

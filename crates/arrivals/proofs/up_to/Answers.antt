@@ -9,7 +9,7 @@ use Rattle.arrivals.proofs.up_to.Goals as goal
 pub returns-then-tick-arrival : goal.returns-then-tick-arrival
 returns-then-tick-arrival c =
     let at = c.loop-block in
-    taking_ends _ _ _ _ _ at.invariant (arrivals_late _ _ _ _ _ (omega arith) (rw (at.invariant.next, ← c.arrival.ensures) c.if-tick-arrival.true))
+    taking_ends _ _ _ _ _ at.invariant (arrivals_late _ _ _ _ _ (omega arith) (rw (at.invariant.next, ← c.arrival.ensures) (omega (arith, c.if-tick-arrival.true))))
 
 pub arrive-requires-clause-in_range : goal.arrive-requires-clause-in_range
 arrive-requires-clause-in_range c =

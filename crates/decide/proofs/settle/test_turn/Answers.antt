@@ -52,7 +52,7 @@ returns-then-turn c =
       state = λ from follows.
           ap (λ (m : Mode). state m (core_of c.rejoin.new.planner from)) e.mode
           ∙ ap (state Idle) (e.core from)
-          ∙ sym (tested_rejoins _ _ _ _ follows c.requires.settles.takes.stands.arrived own _ c.oldest.ensures c.if-planner-oldest.false c.if-turn.true);
+          ∙ sym (tested_rejoins _ _ _ _ follows c.requires.settles.takes.stands.arrived own _ c.oldest.ensures c.if-planner-oldest.false (omega (arith, c.if-turn.true)));
       queues = e.queues;
       gate = e.gate;
     })
@@ -64,7 +64,7 @@ returns-else-turn c =
     rw c.in-InTurn.is
     (record {
       state = λ from follows.
-          sym (tested_goes_on _ _ _ _ follows c.requires.settles.takes.stands.arrived own _ c.oldest.ensures c.if-planner-oldest.false c.if-turn.false);
+          sym (tested_goes_on _ _ _ _ follows c.requires.settles.takes.stands.arrived own _ c.oldest.ensures c.if-planner-oldest.false (omega (arith, c.if-turn.false)));
       queues = refl;
       gate = refl;
     })
