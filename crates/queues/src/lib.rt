@@ -20,6 +20,7 @@ pub struct Queues {
 
 impl Queues {
     // No block is linked.
+    #[tactic(auto, unfolding(crate::specs::Queues::unlinked))]
     pub fn new() -> Queues
         ensures { result ≡ unlinked }
     {

@@ -7,7 +7,7 @@ use load::block::Block;
 use rules::stages::{Span, Way};
 
 // At a stage that the load lacks a block has no run.
-const NO_RUN: Span = Span {
+pub const NO_RUN: Span = Span {
     start: 0,
     finish: 0,
 };

@@ -3,6 +3,7 @@ use Rattle.std.specs.Prelude.{ℕ, ◌≤◌, ◌<◌, ◌≡◌, List, get_or}
 use Rattle.dominant.specs.Dominant.{dominant_time}
 use Rattle.rules.specs.declared.mode.HeldFlow.{HeldFlow}
 use Rattle.rules.specs.declared.mode.Mode.{Mode}
+use Rattle.rules.specs.declared.mode.Mode.TheVariants.{InTurn}
 use Rattle.rules.specs.declared.mode.Turn.{Turn}
 use Rattle.rules.specs.Load.{block_at, Load}
 use Rattle.rules.specs.Within.{Away, Reached, WayWithin}
@@ -34,6 +35,10 @@ TurnFits t = (t.flow < 64) × (t.spent ≤ most)
 
 abbrev pub HeldFits : HeldFlow → List ℕ → Type 0
 HeldFits h gate = (h.flow < 64) × (h.excess ≤ most) × (h.ready ≤ most) × (get_or gate h.flow 0 ≤ most)
+
+-- where a block of this turn may start
+abbrev pub TurnStarts : Load → Turn → Planner → Type 0
+TurnStarts L t p = Starts L (InTurn t) p × TurnFits t
 
 -- the start of the oldest block of the flow in its turn, which waits
 pub record Due (L : Load) (p : Planner) (t : Turn) (s : Start) : Type 0 where

@@ -9,9 +9,10 @@ ghost use Rattle.start.specs.Next.{at_first};
 use accept::accepted::Load;
 use arrivals::state::{Core, Planner};
 use queues::Queues;
+use rows::stages::NO_RUN;
 use rules::mode::Mode;
 use rules::round::Round;
-use rules::stages::{Span, Way};
+use rules::stages::Way;
 use waiting::Waiting;
 
 // The core before anything has arrived.
@@ -19,10 +20,6 @@ use waiting::Waiting;
 fn nothing() -> Core
     ensures { result ≡ at_first }
 {
-    let none = Span {
-        start: 0,
-        finish: 0,
-    };
     Core {
         clock: 0,
         next: 0,
@@ -34,10 +31,10 @@ fn nothing() -> Core
         },
         turns: 0,
         way: Way {
-            one: none,
-            two: none,
-            three: none,
-            four: none,
+            one: NO_RUN,
+            two: NO_RUN,
+            three: NO_RUN,
+            four: NO_RUN,
         },
     }
 }

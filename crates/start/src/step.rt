@@ -9,7 +9,7 @@ ghost use Rattle.queues.specs.Queues.{Follows, oldest_in};
 ghost use Rattle.arrivals.specs.Room.{HasBlock, StandsAt};
 ghost use Rattle.arrivals.specs.State.{CoreBecomes, core_of, state_of};
 ghost use Rattle.start.specs.Next.{Answers, past};
-ghost use Rattle.start.specs.Starting.{Due, HeldFits, Starts, Steps, Timed, TurnFits};
+ghost use Rattle.start.specs.Starting.{Due, HeldFits, Starts, Steps, Timed, TurnStarts};
 
 use accept::accepted::Load;
 use arrivals::state::Planner;
@@ -52,7 +52,7 @@ fn start_at(load: &Load<'_>, planner: &Planner, turn: Turn, hold: u64, place: us
 
 // The start of the oldest block of the flow in its turn, where one waits.
 fn due(load: &Load<'_>, planner: &Planner, turn: Turn, hold: u64) -> Option<Start>
-    requires { Starts (the_load load.now) (InTurn turn) planner.now × TurnFits turn }
+    requires { TurnStarts (the_load load.now) turn planner.now }
     ensures none { IfNone result (planner.now.core.next ≤ oldest_in planner.now.queues turn.flow) }
     ensures some { IfSome result (Due (the_load load.now) planner.now turn) }
     ensures row { IfSome result (λ s. (from : List ℕ) → s.row ≡ row_of (the_load load.now) (core_of planner.now from) turn hold s.row.block) }
@@ -67,7 +67,7 @@ fn due(load: &Load<'_>, planner: &Planner, turn: Turn, hold: u64) -> Option<Star
 // The planner after a start: the block's dominant time is spent, its flow's queue moves on, and the clock is where stage 1 is free
 // again.
 fn after(load: &Load<'_>, planner: &mut Planner, turn: Turn, start: Start)
-    requires starts { Starts (the_load load.now) (InTurn turn) planner.old × TurnFits turn }
+    requires starts { TurnStarts (the_load load.now) turn planner.old }
     requires due { Due (the_load load.now) planner.old turn start }
     ensures { (from : List ℕ) → Follows (the_load load.now) from planner.old.queues
         → (state_of planner.new (past from start.row) ≡ Plan·after (the_load load.now) (core_of planner.old from) turn planner.old.gate start.row)
@@ -84,7 +84,7 @@ fn after(load: &Load<'_>, planner: &mut Planner, turn: Turn, start: Start)
 
 // A block of a turn that goes on.
 fn further(load: &Load<'_>, planner: &mut Planner, turn: Turn) -> Option<Start>
-    requires { Starts (the_load load.now) (InTurn turn) planner.old × TurnFits turn }
+    requires { TurnStarts (the_load load.now) turn planner.old }
     ensures { (from : List ℕ) → Follows (the_load load.now) from planner.old.queues
         → Answers (the_load load.now) result planner.new from (started (the_load load.now) (InTurn turn) (core_of planner.old from)) }
 {
@@ -95,7 +95,7 @@ fn further(load: &Load<'_>, planner: &mut Planner, turn: Turn) -> Option<Start>
 
 // The first block of a turn, which has been held so long. The flow's next turn will wait until it starts at the last stage.
 fn first(load: &Load<'_>, planner: &mut Planner, turn: Turn, hold: u64) -> Option<Start>
-    requires { Starts (the_load load.now) (InTurn turn) planner.old × TurnFits turn }
+    requires { TurnStarts (the_load load.now) turn planner.old }
     ensures { (from : List ℕ) → Follows (the_load load.now) from planner.old.queues
         → Answers (the_load load.now) result planner.new from (begins (the_load load.now) (core_of planner.old from) turn hold) }
 {
@@ -106,7 +106,6 @@ fn first(load: &Load<'_>, planner: &mut Planner, turn: Turn, hold: u64) -> Optio
 }
 
 // The clock moves to the end of the hold, and the turn is counted.
-#[tactic(auto, unfolding(rules::specs::Plan::begun, rules::specs::Plan::up_to))]
 fn hold_until(load: &Load<'_>, planner: &mut Planner, tick: u64)
     requires { StandsAt (the_load load.now) planner.old × (planner.old.core.turns < 1_000_000) }
     ensures { CoreBecomes (λ c. begun (up_to (the_load load.now) planner.old.mode tick c)) planner.old planner.new }

@@ -31,6 +31,7 @@ impl Model for Waiting {
 
 impl Waiting {
     // At first nobody waits.
+    #[tactic(auto, unfolding(crate::specs::Entries::entries, crate::specs::Entries::from))]
     pub fn new() -> Waiting
         ensures { result ≡ [] }
     {
@@ -43,6 +44,7 @@ impl Waiting {
     }
 
     // How many flows wait.
+    #[tactic(auto, using(crate::proofs::Places::length_entries))]
     pub fn len(&self) -> usize
         ensures { result ≡ length self.now }
     {
@@ -51,6 +53,7 @@ impl Waiting {
 
     // An entry joins at the tail, which moves on by one. The head's place is brought round where it is read, here and in `take`:
     // 64 stands for place 0, and no number leads out of the places.
+    #[tactic(auto, using(crate::proofs::Places::length_entries))]
     pub fn join(&mut self, entry: Entry)
         requires { Room self.old }
         ensures { self.new ≡ self.old ++ (entry ∷ []) }

@@ -4,12 +4,6 @@ use Rattle.rules.specs.declared.entry.Entry.{Entry}
 use Rattle.waiting.proofs.Places.{entries_join, length_entries}
 use Rattle.waiting.proofs.Waiting.join.Goals as goal
 
-pub overflow_add-tail : goal.overflow_add-tail
-overflow_add-tail c = omega (arith, length_entries _ _ _ _ c.self.view_is)
-
-pub overflow_add-self : goal.overflow_add-self
-overflow_add-self c = omega (arith, length_entries _ _ _ _ c.self.view_is)
-
 pub returns : goal.returns
 returns c =
     let q = c.self.inside in
