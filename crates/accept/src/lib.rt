@@ -4,6 +4,8 @@
 ghost use Rattle.std.specs.Prelude.{◌≡◌, ◌*◌, ◌≤◌, min, length};
 ghost use Rattle.rules.specs.Calls.{blocks_verdict, plan_verdict, short as Calls·short};
 
+pub mod accepted;
+
 use load::block::Block;
 use load::counts::Counts;
 use load::refusal::Refusal;

@@ -7,6 +7,7 @@ ghost use Rattle.rules.specs.Account.{called as Account·called, noted as Accoun
 use rules::round::Round;
 
 // A flow is called to its turn while so many wait: a round opens first where the one before is used up.
+#[tactic(auto, unfolding(rules::specs::Account::called, rules::specs::Account::opened, rules::specs::Account::used))]
 pub fn called(round: Round, waiting: u64) -> Round
     requires { (0 < waiting) × (round.number < 1_000_000) }
     ensures { result ≡ Account·called round waiting }
@@ -20,24 +21,18 @@ pub fn called(round: Round, waiting: u64) -> Round
         };
     }
     Round {
-        number: round.number,
         left: round.left - 1,
-        credit: round.credit,
-        most: round.most,
+        ..round
     }
 }
 
 // A turn leaves an excess.
+#[tactic(auto, unfolding(rules::specs::Account::noted))]
 pub fn noted(round: Round, excess: u64) -> Round
     ensures { result ≡ Account·noted round excess }
 {
-    if round.most < excess {
-        return Round {
-            number: round.number,
-            left: round.left,
-            credit: round.credit,
-            most: excess,
-        };
+    Round {
+        most: round.most.max(excess),
+        ..round
     }
-    round
 }

@@ -2,7 +2,7 @@
 use Prim.Native.Nat.{ℕ, ◌+◌, ◌<◌}
 use mathlib.Core.Bool.{or-true}
 use mathlib.Core.List.{List, ◌++◌}
-use mathlib.Core.Path.{◌≡◌, refl, sym, ap, ◌∙◌}
+use mathlib.Core.Path.{refl, sym, ◌∙◌}
 use native.Mathlib.Omega.{arith}
 use Rattle.rules.specs.declared.entry.Entry.{Entry}
 use Rattle.rules.specs.declared.mode.Mode.{Mode}
@@ -13,19 +13,12 @@ use Rattle.rules.specs.Waiting.{listed, Lists}
 use Rattle.rules.specs.Within.{Accepted}
 use Rattle.rules.proofs.Lists.{arrived_lists, listed_append, up_to_keep}
 use Rattle.rules.proofs.Unstarted.{arrive, front_listed, LineWhole, started_of, Whole}
+use Rattle.queues.specs.declared.Queues.{Queues}
 use Rattle.queues.specs.Queues.{Follows, most}
 use Rattle.queues.proofs.Finding.{known, owed_waits}
-use Rattle.waiting.specs.Entries.{entries}
-use Rattle.arrivals.specs.declared.state.Core as code
 use Rattle.arrivals.specs.Room.{Stands, Tells}
-use Rattle.arrivals.specs.State.{core_of}
 
--- the list counts by its entries alone
-pub core_same : (c : code.Core) (list list' from gate : List ℕ) → entries list' ≡ entries list → core_of c list' from gate ≡ core_of c list from gate
-core_same c list list' from gate e =
-    ap (λ (w : List Entry). record { clock = c.clock; line = record { next = c.next; wait = w }; round = c.round; turns = c.turns; from = from; gate = gate; way = c.way }) e
-
-module _ (L : Load) (m : Mode) (queues : List ℕ) where
+module _ (L : Load) (m : Mode) (queues : Queues) where
   module _ (next : ℕ) (w : List Entry) (s : Stands L m queues next w) where
     -- as the definition's laws have it; how many blocks are started, they count anew
     pub stands_whole : LineWhole L (started_of L s.from L.counts.blocks) m s.from (record { next = next; wait = w })
@@ -55,8 +48,12 @@ module _ (L : Load) (m : Mode) (queues : List ℕ) where
   pub up_to_stands : Accepted L → (t : ℕ) (c : Core) → Stands L m queues c.line.next c.line.wait → Stands L m queues (up_to L m t c).line.next (up_to L m t c).line.wait
   up_to_stands ok t c s = up_to_keep L m t (λ l. Stands L m queues l.next l.wait) (λ l more. arrived_stands ok l.next l.wait more) c s.arrived s
 
+-- an accepted block's flow is one of those that have a queue
+pub flow_below : (L : Load) → Accepted L → (i : ℕ) → i < L.counts.blocks → flow_at L i < most
+flow_below L ok i h = omega (arith, ok.flows, (ok.each i h).flow)
+
 -- what the arrivals ask, of a state of the plan whose places the queues follow
-pub whole_stands : (L : Load) (k : ℕ) (m : Mode) (c : Core) (queues : List ℕ) → Lists L.counts.flows c.line.wait → Whole L k m c → Follows L c.from queues
+pub whole_stands : (L : Load) (k : ℕ) (m : Mode) (c : Core) (queues : Queues) → Lists L.counts.flows c.line.wait → Whole L k m c → Follows L c.from queues
     → Stands L m queues c.line.next c.line.wait
 whole_stands L k m c queues lists w follows =
     record { arrived = w.0.next_within; lists = lists; from = c.from; follows = follows; passed = w.0.passed; queue = w.1 }

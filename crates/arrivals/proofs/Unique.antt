@@ -1,27 +1,37 @@
--- Each call determines its answer, and the list that it leaves.
-use mathlib.Core.List.{List, []}
-use mathlib.Core.Path.{sym, ap, ◌∙◌}
+-- Each call determines its answer, and the planner that it leaves.
+use Rattle.std.proofs.Common.{◌≡◌, ℕ, List, [], sym, ap, ◌∙◌}
 use Rattle.load.proofs.Once.{OneAnswer, OneExit}
 use Rattle.rules.specs.declared.entry.Entry.{Entry}
+use Rattle.rules.specs.declared.mode.Mode.{Mode}
 use Rattle.rules.specs.Plan as plan
-use Rattle.waiting.specs.Entries.{entries}
-use Rattle.arrivals.specs.declared.state.Core.{Core}
+use Rattle.queues.specs.declared.Queues.{Queues}
 use Rattle.arrivals.specs.declared.state.Planner.{Planner}
+use Rattle.arrivals.specs.State.{core_of}
 use Rattle.arrivals.proofs.arrival.Reads as arrival
 use Rattle.arrivals.proofs.up_to.Reads as up_to_lem
 
--- the code's numbers, from the state that they stand for
-abbrev pub of_core : plan.Core → Core
-of_core c = record { clock = c.clock; next = c.line.next; round = c.round; turns = c.turns; way = c.way }
+-- the code's planner, from the definition's mode and core and its queues
+abbrev planner_of : Mode → plan.Core → Queues → Planner
+planner_of m c queues = record {
+  mode = m;
+  core = record { clock = c.clock; next = c.line.next; round = c.round; turns = c.turns; way = c.way };
+  list = c.line.wait;
+  queues = queues;
+  gate = c.gate;
+}
 
-abbrev pub of_state : plan.State → Planner
-of_state s = record { mode = s.mode; core = of_core s.core }
+pub same_planner : (p q : Planner) (from : List ℕ) → p.mode ≡ q.mode → core_of p from ≡ core_of q from → p.queues ≡ q.queues → p ≡ q
+same_planner p q from modes cores queues =
+    ap (λ (m : Mode). planner_of m (core_of p from) p.queues) modes
+    ∙ ap (λ (c : plan.Core). planner_of q.mode c p.queues) cores
+    ∙ ap (planner_of q.mode (core_of q from)) queues
 
 pub arrival_once : OneAnswer arrival.Post
 arrival_once κs a r r' s s' p q = p ∙ sym q
 
-pub up_to_once : OneAnswer up_to_lem.Post
-up_to_once κs a r r' s s' p q = ap of_core (p [] [] ∙ sym (q [] []))
+pub up_to_once : OneExit up_to_lem.Post {A = Planner} (λ κs s. s.1.0.now)
+up_to_once κs a r r' s s' p q =
+    same_planner _ _ [] (p.mode ∙ sym q.mode) (p.core [] ∙ sym (q.core [])) (p.queues ∙ sym q.queues)
 
-pub up_to_leaves_once : OneExit up_to_lem.Post {A = List Entry} (λ κs s. entries s.1.1.1.1.1.0.now)
-up_to_leaves_once κs a r r' s s' p q = ap (λ (c : plan.Core). c.line.wait) (p [] [] ∙ sym (q [] []))
+pub up_to_leaves_once : OneExit up_to_lem.Post {A = List Entry} (λ κs s. s.1.0.now.list)
+up_to_leaves_once κs a r r' s s' p q = ap (λ (c : plan.Core). c.line.wait) (p.core [] ∙ sym (q.core []))

@@ -1,43 +1,48 @@
--- How the code's state stands for the definition's, and what a function makes of it.
+-- How the code's planner stands for the definition's state, and what a function makes of it.
 use Rattle.std.specs.Prelude.{ℕ, List, ◌≡◌}
 use Rattle.rules.specs.declared.mode.Mode.{Mode}
 use Rattle.rules.specs.Load.{Load}
 use Rattle.rules.specs.Plan as plan
 use Rattle.queues.specs.Queues.{Follows}
-use Rattle.waiting.specs.Entries.{entries}
-use Rattle.arrivals.specs.declared.state.Core.{Core}
 use Rattle.arrivals.specs.declared.state.Planner.{Planner}
 
--- The code's numbers, with the list and the words of `gate` that are lent beside them. The code has no `from`: its queues follow it.
-abbrev pub line_of : ℕ → List ℕ → plan.Line
-line_of next list = record { next = next; wait = entries list }
+-- The planner's numbers, its list and its gates are the definition's. It has no `from`: its queues follow it.
+abbrev pub line_of : Planner → plan.Line
+line_of p = record { next = p.core.next; wait = p.list }
 
-abbrev pub core_of : Core → List ℕ → List ℕ → List ℕ → plan.Core
-core_of c list from gate = record {
-  clock = c.clock;
-  line = line_of c.next list;
-  round = c.round;
-  turns = c.turns;
+abbrev pub core_of : Planner → List ℕ → plan.Core
+core_of p from = record {
+  clock = p.core.clock;
+  line = line_of p;
+  round = p.core.round;
+  turns = p.core.turns;
   from = from;
-  gate = gate;
-  way = c.way;
+  gate = p.gate;
+  way = p.core.way;
 }
 
-abbrev pub state_of : Planner → List ℕ → List ℕ → List ℕ → plan.State
-state_of p list from gate = record { mode = p.mode; core = core_of p.core list from gate }
+abbrev pub state_of : Planner → List ℕ → plan.State
+state_of p from = record { mode = p.mode; core = core_of p from }
 
--- What becomes of a core and the list, by a rule of the plan, whatever `from` and `gate` are: the function neither reads nor
--- changes them.
-abbrev pub CoreBecomes : (plan.Core → plan.Core) → Core → List ℕ → Core → List ℕ → Type 0
-CoreBecomes rule c list c' list' = (from gate : List ℕ) → core_of c' list' from gate ≡ rule (core_of c list from gate)
+-- What becomes of a planner's core, by a rule of the plan, whatever `from` is: the function neither reads nor changes it. The mode,
+-- the queues and the gates stay.
+pub record CoreBecomes (rule : plan.Core → plan.Core) (p p' : Planner) : Type 0 where
+  pub core : (from : List ℕ) → core_of p' from ≡ rule (core_of p from)
+  pub mode : p'.mode ≡ p.mode
+  pub queues : p'.queues ≡ p.queues
+  pub gate : p'.gate ≡ p.gate
 
-abbrev pub Becomes : (plan.Core → plan.State) → Core → List ℕ → Planner → List ℕ → Type 0
-Becomes rule c list p list' = (from gate : List ℕ) → state_of p list' from gate ≡ rule (core_of c list from gate)
+-- the same where the mode changes with the core, by a rule of the core
+pub record Becomes (rule : plan.Core → plan.State) (p p' : Planner) : Type 0 where
+  pub state : (from : List ℕ) → state_of p' from ≡ rule (core_of p from)
+  pub queues : p'.queues ≡ p.queues
+  pub gate : p'.gate ≡ p.gate
 
--- the same where the queues are read, for each `from` that they follow
-abbrev pub BecomesBy : Load → List ℕ → (plan.Core → plan.State) → Core → List ℕ → Planner → List ℕ → Type 0
-BecomesBy L queues rule c list p list' =
-    (from gate : List ℕ) → Follows L from queues → state_of p list' from gate ≡ rule (core_of c list from gate)
+-- and where the queues are read, for each `from` that they follow
+pub record BecomesBy (L : Load) (rule : plan.Core → plan.State) (p p' : Planner) : Type 0 where
+  pub state : (from : List ℕ) → Follows L from p.queues → state_of p' from ≡ rule (core_of p from)
+  pub queues : p'.queues ≡ p.queues
+  pub gate : p'.gate ≡ p.gate
 
 -- how a planner is settled, as a rule of its core
 abbrev pub settled_in : Load → Mode → plan.Core → plan.State

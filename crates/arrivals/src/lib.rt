@@ -2,25 +2,24 @@
 // them the planner's state.
 #![tactic(auto)]
 
-ghost use Rattle.std.specs.Prelude.{◌≡◌, ◌-◌, ◌<◌};
-ghost use Rattle.rules.specs.Load.{block_at, load_of};
-ghost use Rattle.rules.specs.Plan.{arrivals, arrived, busy as Plan·busy, up_to};
+ghost use Rattle.std.specs.Prelude.{◌≡◌, ◌<◌};
+ghost use Rattle.rules.specs.Load.{block_at};
+ghost use Rattle.rules.specs.Plan.{arrived, busy as Plan·busy, up_to};
 ghost use Rattle.rules.specs.Waiting.{Lists};
-ghost use Rattle.rules.specs.Within.{Accepted};
-ghost use Rattle.waiting.specs.Entries.{entries, most};
-ghost use Rattle.arrivals.specs.Room.{HasBlock, Stands, Tells};
-ghost use Rattle.arrivals.specs.State.{CoreBecomes, line_of};
+ghost use Rattle.waiting.specs.Entries.{most};
+ghost use Rattle.accept.specs.Loads.{the_load};
+ghost use Rattle.arrivals.specs.Room.{HasBlock, StandsAt, TellsOf};
+ghost use Rattle.arrivals.specs.State.{CoreBecomes};
 
 pub mod state;
 
-use crate::state::Core;
-use load::counts::Counts;
-use queues::Storage as Queues;
+use crate::state::Planner;
+use accept::accepted::Load;
 use rules::entry::Entry;
 use rules::mode::Mode;
-use waiting::Storage;
 
 // Whether a flow is held or in its turn.
+#[tactic(auto, unfolding(rules::specs::Plan::busy))]
 fn busy(mode: Mode, flow: usize) -> bool
     ensures { result ≡ Plan·busy mode flow }
 {
@@ -31,86 +30,46 @@ fn busy(mode: Mode, flow: usize) -> bool
     }
 }
 
-// A block of a flow arrives after the first `next`. Where an older one waits, the flow is known already: the list is not searched.
-fn arrive(mode: Mode, flow: usize, next: usize, list: &mut Storage, queues: &Queues)
-    requires in_range { (flow < most) × Lists most (entries list.old) }
-    requires tells { Tells mode queues.now next (entries list.old) flow }
-    ensures { entries list.new ≡ arrived mode flow (entries list.old) }
+// A block of a flow arrives, the next one. Where an older one waits, the flow is known already: the list is not searched.
+fn arrive(planner: &mut Planner, flow: usize)
+    requires in_range { (flow < most) × Lists most planner.old.list }
+    requires tells { TellsOf planner.old flow }
+    ensures { planner.new ≡ record planner.old { list = arrived planner.old.mode flow planner.old.list } }
 {
-    if queues::oldest(queues, flow) < next {
+    if planner.queues.oldest(flow) < planner.core.next || busy(planner.mode, flow) {
         return;
     }
-    if busy(mode, flow) {
-        return;
-    }
-    waiting::join(list, Entry { flow, excess: 0 });
+    planner.list.join(Entry { flow, excess: 0 });
 }
 
 // The tick at which a block arrives.
+#[tactic(auto, unfolding(rules::specs::Load::block_at, load::specs::Blocks::block_of))]
 pub fn arrival(blocks: &[u32], block: usize) -> u64
     requires { HasBlock blocks.now block }
     ensures { result ≡ (block_at blocks.now block).arrival }
 {
-    let at = 6 * block + 1;
-    blocks[at] as u64
+    u64::from(blocks[6 * block + 1])
 }
 
+#[tactic(auto, unfolding(rules::specs::Load::block_at, load::specs::Blocks::block_of))]
 fn flow_of(blocks: &[u32], block: usize) -> usize
     requires { HasBlock blocks.now block }
     ensures { result ≡ (block_at blocks.now block).flow }
 {
-    let at = 6 * block;
-    blocks[at] as usize
-}
-
-// Takes the arrivals up to a tick. The answer is how many blocks have arrived then.
-fn admit(
-    counts: Counts,
-    blocks: &[u32],
-    mode: Mode,
-    tick: u64,
-    first: usize,
-    list: &mut Storage,
-    queues: &Queues,
-) -> usize
-    requires accepted { Accepted (load_of counts blocks.now) }
-    requires stands { Stands (load_of counts blocks.now) mode queues.now first (entries list.old) }
-    ensures { line_of result list.new
-        ≡ arrivals (load_of counts blocks.now) (counts.blocks - first) mode tick (line_of first list.old) }
-{
-    let mut next = first;
-    while next < counts.blocks {
-        if tick < arrival(blocks, next) {
-            return next;
-        }
-        arrive(mode, flow_of(blocks, next), next, list, queues);
-        next += 1;
-    }
-    next
+    blocks[6 * block] as usize
 }
 
 // The clock moves to a tick, with the arrivals up to it.
-pub fn up_to(
-    counts: Counts,
-    blocks: &[u32],
-    mode: Mode,
-    tick: u64,
-    core: Core,
-    list: &mut Storage,
-    queues: &Queues,
-) -> Core
-    requires accepted { Accepted (load_of counts blocks.now) }
-    requires stands { Stands (load_of counts blocks.now) mode queues.now core.next (entries list.old) }
-    ensures { CoreBecomes (up_to (load_of counts blocks.now) mode tick) core list.old result list.new }
+pub fn up_to(load: &Load<'_>, planner: &mut Planner, tick: u64)
+    requires stands { StandsAt (the_load load.now) planner.old }
+    ensures { CoreBecomes (up_to (the_load load.now) planner.old.mode tick) planner.old planner.new }
 {
-    let round = core.round;
-    let way = core.way;
-    let next = admit(counts, blocks, mode, tick, core.next, list, queues);
-    Core {
-        clock: tick,
-        next,
-        round,
-        turns: core.turns,
-        way,
+    planner.core.clock = tick;
+    for block in planner.core.next..load.counts.blocks {
+        if tick < arrival(load.blocks, block) {
+            return;
+        }
+        arrive(planner, flow_of(load.blocks, block));
+        planner.core.next = block + 1;
     }
 }

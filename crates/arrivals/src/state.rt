@@ -1,7 +1,9 @@
-// The planner's state between two starts: idle, or it holds a flow, or it is in a flow's turn with a balance.
+// The planner between two starts: idle, or it holds a flow, or it is in a flow's turn with a balance.
+use queues::Queues;
 use rules::mode::Mode;
 use rules::round::Round;
 use rules::stages::Way;
+use waiting::Waiting;
 
 // What goes on whatever the mode: the clock, how many blocks of the table have arrived, the round, the turns begun, and the way
 // of the block started last.
@@ -14,8 +16,13 @@ pub struct Core {
     pub way: Way,
 }
 
-#[derive(Clone, Copy)]
+// The planner with all that it changes as it goes on: beside mode and core the list of waiting flows, the flows' queues, and for
+// each flow its gate, the tick before which its next turn does not start.
+#[derive(Drop)]
 pub struct Planner {
     pub mode: Mode,
     pub core: Core,
+    pub list: Waiting,
+    pub queues: Queues,
+    pub gate: [u64; 64],
 }

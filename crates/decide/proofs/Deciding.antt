@@ -12,11 +12,12 @@ use Rattle.rules.specs.declared.mode.Turn.{Turn}
 use Rattle.rules.specs.Load.{Load, block_at}
 use Rattle.rules.specs.Plan.{Core, Started, oldest, readied, rejoined, state, taken, tested, up_to, waits, where_waits, woken}
 use Rattle.rules.specs.Within.{Accepted, Away}
+use Rattle.queues.specs.declared.Queues.{Queues}
 use Rattle.queues.specs.Queues.{Follows, most, oldest_in}
 use Rattle.queues.proofs.Finding.{found, none_found}
 
 -- o is a flow's oldest block, as queues tell it that follow the core's places: it waits if it is below `next`
-module _ (L : Load) (c : Core) (queues : List ℕ) (follows : Follows L c.from queues) (within : c.line.next ≤ L.counts.blocks) (f : ℕ) (below : f < most) (o : ℕ) (is : o ≡ oldest_in queues f) where
+module _ (L : Load) (c : Core) (queues : Queues) (follows : Follows L c.from queues) (within : c.line.next ≤ L.counts.blocks) (f : ℕ) (below : f < most) (o : ℕ) (is : o ≡ oldest_in queues f) where
   pub the_oldest : o < c.line.next → o ≡ oldest L c f
   the_oldest h = is ∙ found L c queues follows within f below (rw (← is) h)
 
@@ -43,7 +44,7 @@ unfolding Away
 turn_below L ok t w away = omega (arith, away.0, ok.flows)
 
 -- a turn is tested
-module _ (L : Load) (t : Turn) (c : Core) (queues : List ℕ) (follows : Follows L c.from queues) (within : c.line.next ≤ L.counts.blocks) (below : t.flow < most) (o : ℕ) (is : o ≡ oldest_in queues t.flow) where
+module _ (L : Load) (t : Turn) (c : Core) (queues : Queues) (follows : Follows L c.from queues) (within : c.line.next ≤ L.counts.blocks) (below : t.flow < most) (o : ℕ) (is : o ≡ oldest_in queues t.flow) where
   pub tested_leaves : c.line.next ≤ o → tested L (InTurn t) c ≡ state Idle c
   unfolding tested
   tested_leaves h = rw (waits_not L c queues follows within t.flow below o is h)

@@ -1,32 +1,44 @@
--- The parts of a step that go by the mode, where the mode is known by an equation.
-use mathlib.Core.Path.{◌≡◌, refl}
-use Rattle.rules.specs.declared.mode.HeldFlow.{HeldFlow}
+-- The parts of a step that go by the mode, where they leave the planner as it is, and how a planner becomes another in two parts.
+use Rattle.std.proofs.Common.{◌≡◌, ◌∷◌, List, refl, ap, ◌∙◌}
+use Rattle.rules.specs.declared.entry.Entry.{Entry}
 use Rattle.rules.specs.declared.mode.Mode.TheVariants.{Idle, Holds, InTurn}
 use Rattle.rules.specs.declared.mode.Mode.{Mode}
 use Rattle.rules.specs.declared.mode.Turn.{Turn}
 use Rattle.rules.specs.Load.{Load}
-use Rattle.rules.specs.Plan.{Core, onward, readied, state, tested}
+use Rattle.rules.specs.Plan.{Core, onward, readied, settled, State, state, taken, tested, with_line, with_round}
+use Rattle.arrivals.specs.declared.state.Planner.{Planner}
+use Rattle.arrivals.specs.State.{Becomes, BecomesBy, settled_in}
 
-module _ (L : Load) (m : Mode) (c : Core) where
-  pub tested_idle : m ≡ Idle → tested L m c ≡ state m c
+module _ (L : Load) (c : Core) where
+  -- only a turn is tested
+  pub tested_stays : (m : Mode) → ((t : Turn) → m ≡ InTurn t → ⊥) → tested L m c ≡ state m c
   unfolding tested
-  tested_idle e = rw e
+  tested_stays Idle other = refl
+  tested_stays (Holds h) other = refl
+  tested_stays (InTurn t) other = absurd (other t refl)
 
-  pub tested_held : (h : HeldFlow) → m ≡ Holds h → tested L m c ≡ state m c
-  unfolding tested
-  tested_held h e = rw e
-
-  pub tested_turn : (t : Turn) → m ≡ InTurn t → tested L m c ≡ tested L (InTurn t) c
-  tested_turn t e = rw e refl
-
-  pub onward_idle : m ≡ Idle → onward L m c ≡ readied L c
+  -- only an idle planner takes a flow
+  pub onward_idle : (m : Mode) → m ≡ Idle → onward L m c ≡ readied L c
   unfolding onward
-  onward_idle e = rw e
+  onward_idle m e = rw e
 
-  pub onward_held : (h : HeldFlow) → m ≡ Holds h → onward L m c ≡ state m c
+  pub onward_stays : (m : Mode) → (m ≡ Idle → ⊥) → onward L m c ≡ state m c
   unfolding onward
-  onward_held h e = rw e
+  onward_stays Idle other = absurd (other refl)
+  onward_stays (Holds h) other = refl
+  onward_stays (InTurn t) other = refl
 
-  pub onward_turn : (t : Turn) → m ≡ InTurn t → onward L m c ≡ state m c
-  unfolding onward
-  onward_turn t e = rw e
+-- A turn is tested, and then the planner goes on by its mode.
+pub settles_by : (L : Load) (p q r : Planner) → BecomesBy L (tested L p.mode) p q → Becomes (onward L q.mode) q r → BecomesBy L (settled_in L p.mode) p r
+unfolding settled
+settles_by L p q r test on = record {
+  state = λ from follows. on.state from ∙ ap (λ (s : State). onward L s.mode s.core) (test.state from follows);
+  queues = on.queues ∙ test.queues;
+  gate = on.gate ∙ test.gate;
+}
+
+-- The entry that has left the list as its head is called: the list is not the rule's to look at any more.
+pub called_head : (p q : Planner) (e : Entry) (w : List Entry) → p.list ≡ e ∷ w → Becomes (λ (c : Core). taken c (e ∷ w)) (record p { list = w }) q
+    → Becomes (λ (c : Core). taken c p.list) p q
+unfolding taken state with_line with_round
+called_head p q e w head call = rw head (record { state = call.state; queues = call.queues; gate = call.gate })

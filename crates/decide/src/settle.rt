@@ -1,202 +1,107 @@
 // What is decided when stage 1 is free: whether the turn goes on, and else who is taken next.
-ghost use Rattle.std.specs.Prelude.{List, [], ◌∷◌, ℕ, ◌<◌};
-ghost use Rattle.rules.specs.declared.mode.Mode.TheVariants.{Idle, InTurn};
-ghost use Rattle.rules.specs.Load.{load_of};
-ghost use Rattle.rules.specs.Plan.{onward as Plan·onward, readied, rejoined, taken, tested as Plan·tested, woken};
-ghost use Rattle.rules.specs.Within.{Accepted, Away};
-ghost use Rattle.waiting.specs.Entries.{entries, Fits, Room};
-ghost use Rattle.arrivals.specs.Room.{Stands};
+ghost use Rattle.std.specs.Prelude.{◌≡◌, [], ◌∷◌, ◌<◌};
+ghost use Rattle.rules.specs.declared.mode.Mode.TheVariants.{Idle};
+ghost use Rattle.rules.specs.Plan.{readied, rejoined, taken, tested as Plan·tested, woken};
+ghost use Rattle.waiting.specs.Entries.{Fits, Room};
+ghost use Rattle.accept.specs.Loads.{the_load};
+ghost use Rattle.arrivals.specs.Room.{StandsAt};
 ghost use Rattle.arrivals.specs.State.{Becomes, BecomesBy, CoreBecomes, settled_in};
 ghost use Rattle.decide.specs.Room.{Settles, Takes};
 
-use arrivals::state::{Core, Planner};
-use load::counts::Counts;
-use queues::Storage as Queues;
+use accept::accepted::Load;
+use arrivals::state::Planner;
 use rules::entry::Entry;
-use rules::mode::{HeldFlow, Mode, Turn};
-use waiting::{Head, Storage};
+use rules::mode::{HeldFlow, Mode};
 
 // The turn ended with a block still waiting: the flow joins the tail with its excess.
-fn rejoin(core: Core, flow: usize, excess: u64, list: &mut Storage) -> Core
-    requires { Room (entries list.old) }
-    ensures { CoreBecomes (λ c. rejoined c flow excess) core list.old result list.new }
+#[tactic(auto, unfolding(rules::specs::Plan::rejoined, rules::specs::Plan::with_line, rules::specs::Plan::with_round))]
+fn rejoin(planner: &mut Planner, flow: usize, excess: u64)
+    requires { Room planner.old.list }
+    ensures { CoreBecomes (λ c. rejoined c flow excess) planner.old planner.new }
 {
-    let round = core.round;
-    let way = core.way;
-    waiting::join(list, Entry { flow, excess });
-    let then = accounts::noted(round, excess);
-    Core {
-        clock: core.clock,
-        next: core.next,
-        round: then,
-        turns: core.turns,
-        way,
-    }
+    planner.list.join(Entry { flow, excess });
+    planner.core.round = accounts::noted(planner.core.round, excess);
 }
 
-// The turn goes on while a block of the flow has arrived and the balance is 0 or more.
-fn test_turn(
-    counts: Counts,
-    blocks: &[u32],
-    turn: Turn,
-    core: Core,
-    list: &mut Storage,
-    queues: &Queues,
-) -> Planner
-    requires accepted { Accepted (load_of counts blocks.now) }
-    requires stands { Stands (load_of counts blocks.now) (InTurn turn) queues.now core.next (entries list.old) }
-    requires away { Away counts.flows (InTurn turn) (entries list.old) }
-    ensures { BecomesBy (load_of counts blocks.now) queues.now (Plan·tested (load_of counts blocks.now) (InTurn turn))
-        core list.old result list.new }
+// A turn goes on while a block of the flow has arrived and the balance is 0 or more. An idle planner and a held flow stay as they
+// are.
+fn test_turn(load: &Load<'_>, planner: &mut Planner)
+    requires settles { Settles (the_load load.now) planner.old }
+    ensures { BecomesBy (the_load load.now) (Plan·tested (the_load load.now) planner.old.mode) planner.old planner.new }
 {
-    let flow = turn.flow;
-    let next = core.next;
-    if next <= queues::oldest(queues, flow) {
-        return Planner {
-            mode: Mode::Idle,
-            core,
-        };
-    }
-    if turn.spent <= turn.allowance {
-        return Planner {
-            mode: Mode::InTurn(turn),
-            core,
-        };
-    }
-    let excess = turn.spent - turn.allowance;
-    let then = rejoin(core, flow, excess, list);
-    Planner {
-        mode: Mode::Idle,
-        core: then,
+    let Mode::InTurn(turn) = planner.mode else {
+        return;
+    };
+    if planner.core.next <= planner.queues.oldest(turn.flow) {
+        planner.mode = Mode::Idle;
+    } else if turn.allowance < turn.spent {
+        planner.mode = Mode::Idle;
+        rejoin(planner, turn.flow, turn.spent - turn.allowance);
     }
 }
 
 // The flow that has left the list is called to its turn, and is held from this tick on. It was the head of those that wait, so it
 // counts where a round opens.
-fn call(core: Core, entry: Entry, list: &Storage) -> Planner
-    requires { Fits (entries list.now) × (core.round.number < 1_000_000) }
-    ensures { (before : List ℕ) → Becomes (λ c. taken c (entry ∷ entries list.now)) core before result list.now }
+#[tactic(auto, unfolding(rules::specs::Plan::taken, rules::specs::Plan::state, rules::specs::Plan::with_line, rules::specs::Plan::with_round))]
+fn call(planner: &mut Planner, entry: Entry)
+    requires { Fits planner.old.list × (planner.old.core.round.number < 1_000_000) }
+    ensures { Becomes (λ c. taken c (entry ∷ planner.old.list)) planner.old planner.new }
 {
-    let round = core.round;
-    let way = core.way;
-    let held = HeldFlow {
+    planner.mode = Mode::Holds(HeldFlow {
         flow: entry.flow,
         excess: entry.excess,
-        ready: core.clock,
-    };
-    let waiting = waiting::length(list) as u64 + 1;
-    let then = accounts::called(round, waiting);
-    let next = Core {
-        clock: core.clock,
-        next: core.next,
-        round: then,
-        turns: core.turns,
-        way,
-    };
-    Planner {
-        mode: Mode::Holds(held),
-        core: next,
-    }
+        ready: planner.core.clock,
+    });
+    planner.core.round = accounts::called(planner.core.round, planner.list.len() as u64 + 1);
 }
 
 // The list is empty, so the planner goes on to the next arrival, if one is to come: only the clock moves.
-fn wake(counts: Counts, blocks: &[u32], core: Core, list: &mut Storage, queues: &Queues) -> Core
-    requires accepted { Accepted (load_of counts blocks.now) }
-    requires stands { Stands (load_of counts blocks.now) Idle queues.now core.next (entries list.old) }
-    ensures { CoreBecomes (λ c. woken (load_of counts blocks.now) c []) core list.old result list.new }
+fn wake(load: &Load<'_>, planner: &mut Planner)
+    requires stands { StandsAt (the_load load.now) planner.old }
+    requires idle { planner.old.mode ≡ Idle }
+    ensures { CoreBecomes (λ c. woken (the_load load.now) c []) planner.old planner.new }
 {
-    let next = core.next;
-    if counts.blocks <= next {
-        return core;
+    if planner.core.next < load.counts.blocks {
+        arrivals::up_to(
+            load,
+            planner,
+            arrivals::arrival(load.blocks, planner.core.next),
+        );
     }
-    let tick = arrivals::arrival(blocks, next);
-    arrivals::up_to(counts, blocks, Mode::Idle, tick, core, list, queues)
 }
 
-// The head of the list is taken, and the planner is idle where there is none.
-fn take_head(core: Core, list: &mut Storage) -> Planner
-    requires { Fits (entries list.old) × (core.round.number < 1_000_000) }
-    ensures { Becomes (λ c. taken c c.line.wait) core list.old result list.new }
+// The head of the list is taken, and the planner stays idle where there is none.
+fn take_head(planner: &mut Planner)
+    requires fits { Fits planner.old.list × (planner.old.core.round.number < 1_000_000) }
+    requires idle { planner.old.mode ≡ Idle }
+    ensures { Becomes (λ c. taken c planner.old.list) planner.old planner.new }
 {
-    let Head::Flow(entry) = waiting::take(list) else {
-        return Planner {
-            mode: Mode::Idle,
-            core,
-        };
-    };
-    call(core, entry, list)
+    if let Some(entry) = planner.list.take() {
+        call(planner, entry);
+    }
 }
 
 // The ready tick: the head of the list is taken; where the list is empty, the planner goes on to the next arrival instead.
-fn ready(counts: Counts, blocks: &[u32], core: Core, list: &mut Storage, queues: &Queues) -> Planner
-    requires accepted { Accepted (load_of counts blocks.now) }
-    requires takes { Takes (load_of counts blocks.now) Idle queues.now core (entries list.old) }
-    ensures { Becomes (readied (load_of counts blocks.now)) core list.old result list.new }
+fn ready(load: &Load<'_>, planner: &mut Planner)
+    requires takes { Takes (the_load load.now) planner.old }
+    requires idle { planner.old.mode ≡ Idle }
+    ensures { Becomes (readied (the_load load.now)) planner.old planner.new }
 {
-    let Head::Flow(entry) = waiting::take(list) else {
-        let woken = wake(counts, blocks, core, list, queues);
-        return take_head(woken, list);
+    let Some(entry) = planner.list.take() else {
+        wake(load, planner);
+        return take_head(planner);
     };
-    call(core, entry, list)
-}
-
-// A turn is tested; an idle planner and a held flow stay as they are.
-fn tested(
-    counts: Counts,
-    blocks: &[u32],
-    planner: Planner,
-    list: &mut Storage,
-    queues: &Queues,
-) -> Planner
-    requires accepted { Accepted (load_of counts blocks.now) }
-    requires settles { Settles (load_of counts blocks.now) queues.now planner (entries list.old) }
-    ensures { BecomesBy (load_of counts blocks.now) queues.now (Plan·tested (load_of counts blocks.now) planner.mode)
-        planner.core list.old result list.new }
-{
-    let mode = planner.mode;
-    let core = planner.core;
-    match mode {
-        Mode::Idle => planner,
-        Mode::Holds(_) => planner,
-        Mode::InTurn(turn) => test_turn(counts, blocks, turn, core, list, queues),
-    }
-}
-
-// An idle planner takes the next flow; any other goes on.
-fn onward(
-    counts: Counts,
-    blocks: &[u32],
-    planner: Planner,
-    list: &mut Storage,
-    queues: &Queues,
-) -> Planner
-    requires accepted { Accepted (load_of counts blocks.now) }
-    requires takes { Takes (load_of counts blocks.now) planner.mode queues.now planner.core (entries list.old) }
-    ensures { Becomes (Plan·onward (load_of counts blocks.now) planner.mode) planner.core list.old result list.new }
-{
-    let mode = planner.mode;
-    let core = planner.core;
-    match mode {
-        Mode::Idle => ready(counts, blocks, core, list, queues),
-        Mode::Holds(_) => planner,
-        Mode::InTurn(_) => planner,
-    }
+    call(planner, entry);
 }
 
 // What the planner does next at this tick: it goes on with a turn, or holds the flow that is taken; it is idle only where nothing
 // is left to start.
-pub fn settle(
-    counts: Counts,
-    blocks: &[u32],
-    planner: Planner,
-    list: &mut Storage,
-    queues: &Queues,
-) -> Planner
-    requires accepted { Accepted (load_of counts blocks.now) }
-    requires settles { Settles (load_of counts blocks.now) queues.now planner (entries list.old) }
-    ensures { BecomesBy (load_of counts blocks.now) queues.now (settled_in (load_of counts blocks.now) planner.mode)
-        planner.core list.old result list.new }
+pub fn settle(load: &Load<'_>, planner: &mut Planner)
+    requires settles { Settles (the_load load.now) planner.old }
+    ensures { BecomesBy (the_load load.now) (settled_in (the_load load.now) planner.old.mode) planner.old planner.new }
 {
-    let then = tested(counts, blocks, planner, list, queues);
-    onward(counts, blocks, then, list, queues)
+    test_turn(load, planner);
+    if let Mode::Idle = planner.mode {
+        ready(load, planner);
+    }
 }

@@ -3,16 +3,17 @@
 
 ghost use Rattle.rules.specs.Calls.{Plans};
 
-mod record;
-
+use accept::accepted;
 use load::counts::Counts;
 use load::refusal::Refusal;
-use progress::run;
+use progress::record;
+use progress::tally::Tally;
+use rows::row;
 use rules::answer::Summary;
 use rules::record::FlowRecord;
+use start::{origin, step};
 
-// The first `limit` blocks of the plan, or all of them: their rows, the flows' records, and the counts. The loop decides nothing. It
-// has the one call of `next`: with a second one that is no longer made part of the loop, and a plan takes 1.6 times as long.
+// The first `limit` blocks of the plan, or all of them: their rows, the flows' records, and the counts.
 pub fn plan(
     counts: Counts,
     limit: u64,
@@ -22,29 +23,20 @@ pub fn plan(
 ) -> Result<Summary, Refusal>
     ensures { Plans counts limit blocks.now flows.old rows.old result flows.new rows.new }
 {
-    let mut list = waiting::empty();
-    let mut queues: queues::Storage = [queues::NONE; 1088];
-    let mut gate = [0u64; 64];
-    let mut going = run::first(
-        counts,
-        limit,
-        blocks,
-        flows.len(),
-        rows.len(),
-        &mut list,
-        &mut queues,
-    );
-    while going.go {
-        going = run::next(
-            counts,
-            blocks,
-            going,
-            &mut list,
-            &mut queues,
-            &mut gate,
-            rows,
-        );
-        record::note(flows, going.change);
+    let load = accepted::accept(counts, limit, blocks, flows.len(), rows.len())?;
+    record::empty(&mut flows[..counts.flows]);
+    let mut planner = origin::origin(&load);
+    let mut tally = Tally::default();
+    let listed = accept::listed(limit, counts.blocks);
+    for i in 0..listed {
+        let turns = planner.core.turns;
+        let Some(start) = step::step(&load, &mut planner) else {
+            // This is never reached: there is a start for each block that is listed.
+            break;
+        };
+        row::write(&mut rows[15 * i..], start.row);
+        record::note(flows, turns, start.row, start.time);
+        tally.count(start.row.hold);
     }
-    run::answer(counts, going)
+    Ok(tally.summary(counts.stages, listed, planner.core))
 }

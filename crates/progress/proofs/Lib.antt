@@ -1,1 +1,2 @@
 pub mod Running
+pub mod Unique

@@ -1,2 +1,2 @@
-pub mod Changes
-pub mod Going
+pub mod Records
+pub mod Tally

@@ -1,6 +1,5 @@
-// Where a plan call is, from its tests to its last start: at each point what is to be changed in the flow table, which it does not
-// see. The rows are written and counted here.
+// What a plan call counts, and what it writes in the flow table.
 #![tactic(auto)]
 
-pub mod change;
-pub mod run;
+pub mod record;
+pub mod tally;

@@ -16,10 +16,11 @@ use Rattle.rules.specs.Unstarted.{Queue}
 use Rattle.rules.specs.Waiting.{listed}
 use Rattle.rules.proofs.Blocks.{oldest_own}
 use Rattle.rules.proofs.Unstarted.{oldest_arrived, oldest_from}
+use Rattle.queues.specs.declared.Queues.{Queues}
 use Rattle.queues.specs.Queues.{First, Follows, most, oldest_in}
 
 -- the definition's oldest block of a flow that waits
-module _ (L : Load) (c : Core) (queues : List ℕ) (follows : Follows L c.from queues) (arrived : c.line.next ≤ L.counts.blocks) (f : ℕ) (below : f < most) where
+module _ (L : Load) (c : Core) (queues : Queues) (follows : Follows L c.from queues) (arrived : c.line.next ≤ L.counts.blocks) (f : ℕ) (below : f < most) where
   abbrev first : First L.table L.counts.blocks f (get_or c.from f 0) (oldest_in queues f)
   first = follows.oldest f below
 
@@ -40,7 +41,7 @@ module _ (L : Load) (c : Core) (queues : List ℕ) (follows : Follows L c.from q
       (ltb-false (oldest L c f) c.line.next)
 
 -- the flows that are listed, held or in their turn, and those that must have a block
-module _ (L : Load) (from : List ℕ) (next : ℕ) (queues : List ℕ) (follows : Follows L from queues) (arrived : next ≤ L.counts.blocks)
+module _ (L : Load) (from : List ℕ) (next : ℕ) (queues : Queues) (follows : Follows L from queues) (arrived : next ≤ L.counts.blocks)
     (all owed : List Entry) (queue : Queue L all owed from next) (f : ℕ) (below : f < most) where
   pub known : oldest_in queues f < next → listed f all ≡ true
   known h =

@@ -5,16 +5,23 @@ use mathlib.Core.Path.{◌≡◌, refl, sym, ◌∙◌}
 use native.Mathlib.Nat.{add-zero}
 use native.Mathlib.Omega.{arith}
 use lib.ListN.{get_or, length, length-set, set}
-use lib.Seq.{get_or-drop, get_or-set_other}
+use lib.Seq.{get_or-drop}
 use Rattle.load.specs.Blocks.{block_of}
-use Rattle.rules.specs.Load.{block_at, Load}
+use Rattle.load.specs.declared.counts.Counts.{Counts}
+use Rattle.rules.specs.Load.{block_at, Load, load_of}
+use Rattle.rules.specs.Within.{Accepted}
 use Rattle.rules.proofs.Unstarted.{set_either}
-use Rattle.queues.specs.Queues.{advanced, First, Follows, link_in, most, oldest_in, size}
+use Rattle.queues.specs.declared.Queues.{Queues}
+use Rattle.queues.specs.Queues.{advanced, First, Follows, link_in, most, none, oldest_in}
 
 -- a block's flow is the first of its six words
 pub flow_word : (table : List ℕ) (i : ℕ) → get_or table (6 * i) 0 ≡ (block_at table i).flow
 unfolding block_at block_of
 flow_word table i = rw (get_or-drop, add-zero) refl
+
+-- and it has a queue
+pub flow_below : (counts : Counts) (table : List ℕ) → Accepted (load_of counts table) → (i : ℕ) → i < counts.blocks → get_or table (6 * i) 0 < most
+flow_below counts table ok i h = rw (flow_word table i) (omega (arith, (ok.each i h).flow, ok.flows))
 
 module _ (table : List ℕ) (n f : ℕ) where
   -- past the last block there is none
@@ -35,50 +42,42 @@ module _ (table : List ℕ) (n f : ℕ) where
   }
 
 -- the blocks from place i on are linked
-abbrev pub LinkedFrom : List ℕ → ℕ → ℕ → List ℕ → Type 0
-LinkedFrom table n i queues =
-    ((f : ℕ) → f < most → First table n f i (oldest_in queues f))
-    × ((b : ℕ) → i ≤ b → b < n → First table n (block_at table b).flow (b + 1) (link_in queues b))
+pub record LinkedFrom (table : List ℕ) (n i : ℕ) (queues : Queues) : Type 0 where
+  pub stored : (length queues.oldest ≡ most) × (length queues.next ≡ none)
+  pub oldest : (f : ℕ) → f < most → First table n f i (oldest_in queues f)
+  pub links : (b : ℕ) → i ≤ b → b < n → First table n (block_at table b).flow (b + 1) (link_in queues b)
 
 -- so is the one before: its link is its flow's oldest block, and it is its flow's oldest then
-pub linked_more : (table : List ℕ) (n i g : ℕ) (queues : List ℕ) → length queues ≡ size → i < 1024 → g < most → g ≡ (block_at table i).flow
-    → LinkedFrom table n (i + 1) queues → LinkedFrom table n i (set (set queues (most + i) (oldest_in queues g)) g i)
-linked_more table n i g queues long within below own linked = (oldest, links) where
-  linked₁ : List ℕ
-  linked₁ = set queues (most + i) (oldest_in queues g)
-
-  room : g < length linked₁
-  room = rw (length-set queues (most + i) (oldest_in queues g)) (omega arith)
-
-  oldest : (f : ℕ) → f < most → First table n f i (oldest_in (set linked₁ g i) f)
-  oldest f h =
-      set_either (First table n f i) linked₁ g f i room
+pub linked_more : (table : List ℕ) (n i g : ℕ) (queues : Queues) → i < none → g < most → g ≡ (block_at table i).flow → LinkedFrom table n (i + 1) queues
+    → LinkedFrom table n i (record { oldest = set queues.oldest g i; next = set queues.next i (oldest_in queues g) })
+linked_more table n i g queues within below own linked = record {
+  stored = (length-set queues.oldest g i ∙ linked.stored.0, length-set queues.next i (oldest_in queues g) ∙ linked.stored.1);
+  oldest = λ f h.
+      set_either (First table n f i) queues.oldest g f i (omega (arith, linked.stored.0))
       (λ same. first_here table n f i (sym own ∙ same))
-      (λ differ. rw (get_or-set_other queues (most + i) f (oldest_in queues g) 0 (omega arith)) (first_before table n f i _ (λ q. differ (own ∙ q)) (linked.0 f h)))
-
-  links : (b : ℕ) → i ≤ b → b < n → First table n (block_at table b).flow (b + 1) (link_in (set linked₁ g i) b)
-  links b from h =
-      rw (get_or-set_other linked₁ g (most + b) i 0 (omega arith))
-      (set_either (First table n (block_at table b).flow (b + 1)) queues (most + i) (most + b) (oldest_in queues g) (omega arith)
-      (λ same. let here : i ≡ b = omega arith in rw (← here, ← own) (linked.0 g below))
-      (λ differ. linked.1 b (omega (arith, differ)) h))
+      (λ differ. first_before table n f i _ (λ q. differ (own ∙ q)) (linked.oldest f h));
+  links = λ b from h.
+      set_either (First table n (block_at table b).flow (b + 1)) queues.next i b (oldest_in queues g) (omega (arith, linked.stored.1))
+      (λ same. rw (← same, ← own) (linked.oldest g below))
+      (λ differ. linked.links b (omega (arith, differ)) h);
+}
 
 -- A block starts: its flow's blocks aren't started from the place behind it on.
-pub follows_on : (L : Load) (from queues : List ℕ) → Follows L from queues → (f b : ℕ) → f < most → b ≡ oldest_in queues f → b < L.counts.blocks
+pub follows_on : (L : Load) (from : List ℕ) (queues : Queues) → Follows L from queues → (f b : ℕ) → f < most → b ≡ oldest_in queues f → b < L.counts.blocks
     → Follows L (set from f (b + 1)) (advanced queues f b)
 follows_on L from queues follows f b below is within = record {
   long = length-set from f (b + 1) ∙ follows.long;
-  stored = length-set queues f (link_in queues b) ∙ follows.stored;
+  stored = (length-set queues.oldest f (link_in queues b) ∙ follows.stored.0, follows.stored.1);
   oldest = λ g h.
       set_either (λ (v : ℕ). First L.table L.counts.blocks g v (oldest_in (advanced queues f b) g)) from f g (b + 1) room
-      (λ same. set_either (First L.table L.counts.blocks g (b + 1)) queues f g (link_in queues b) held (λ _. rw (← same, ← own) (follows.links b within)) (λ differ. absurd (differ same)))
-      (λ differ. set_either (First L.table L.counts.blocks g (get_or from g 0)) queues f g (link_in queues b) held (λ same. absurd (differ same)) (λ _. follows.oldest g h));
-  links = λ a h. rw (get_or-set_other queues f (most + a) (link_in queues b) 0 (omega arith)) (follows.links a h);
+      (λ same. set_either (First L.table L.counts.blocks g (b + 1)) queues.oldest f g (link_in queues b) held (λ _. rw (← same, ← own) (follows.links b within)) (λ differ. absurd (differ same)))
+      (λ differ. set_either (First L.table L.counts.blocks g (get_or from g 0)) queues.oldest f g (link_in queues b) held (λ same. absurd (differ same)) (λ _. follows.oldest g h));
+  links = follows.links;
 } where
   room : f < length from
   room = omega (arith, follows.long)
 
-  held : f < length queues
+  held : f < length queues.oldest
   held = omega (arith, follows.stored)
 
   own : (block_at L.table b).flow ≡ f

@@ -6,8 +6,8 @@ use mathlib.Core.Path.{◌≡◌, sym, ◌∙◌}
 use native.Mathlib.Omega.{arith}
 use Rattle.load.proofs.Once.{OneAnswer, OneExit}
 use Rattle.queues.specs.Queues.{First}
-use Rattle.queues.proofs.oldest.Reads as oldest
-use Rattle.queues.proofs.start.Reads as start
+use Rattle.queues.proofs.Queues.oldest.Reads as oldest
+use Rattle.queues.proofs.Queues.start.Reads as start
 
 pub oldest_once : OneAnswer oldest.Post
 oldest_once κs a r r' s s' p q = p ∙ sym q

@@ -4,53 +4,57 @@
 
 ghost use Rattle.std.specs.Prelude.{◌≡◌, ◌<◌, replicate};
 ghost use Rattle.rules.specs.Load.{load_of};
-ghost use Rattle.rules.specs.Within.{Accepted};
 ghost use Rattle.queues.specs.Queues.{advanced, Follows, most, none, oldest_in, unlinked};
 
-use load::counts::Counts;
+use accept::accepted::Load;
 
-// For each of 64 flows the place of its oldest block, and behind them for each of 1,024 blocks the place of the next one of its
-// flow.
-pub type Storage = [u32; 1088];
+// The place past all blocks stands for none, so one comparison with how many have arrived tells whether a block waits.
+const NONE: u32 = 1024;
 
-const FLOWS: usize = 64;
+// For each flow the place of its oldest block, and for each block the place of the next one of its flow.
+#[derive(Drop)]
+pub struct Queues {
+    oldest: [u32; 64],
+    next: [u32; 1024],
+}
 
-// It stands for no block, and lies past every block that has arrived, so one comparison tells whether a block waits.
-pub const NONE: u32 = 1024;
-
-// Links all blocks, from the last to the first: what was the oldest block of a flow comes next after the one before it.
-pub fn link(counts: Counts, blocks: &[u32], queues: &mut Storage)
-    requires { Accepted (load_of counts blocks.now) × (queues.old ≡ unlinked) }
-    ensures { Follows (load_of counts blocks.now) (replicate most 0) queues.new }
-{
-    let mut block = counts.blocks;
-    while 0 < block {
-        block -= 1;
-        let at = 6 * block;
-        let flow = blocks[at] as usize;
-        queues[FLOWS + block] = queues[flow];
-        queues[flow] = block as u32;
+impl Queues {
+    // No block is linked.
+    #[tactic(auto, unfolding(crate::specs::Queues::unlinked))]
+    pub fn new() -> Queues
+        ensures { result ≡ unlinked }
+    {
+        Queues {
+            oldest: [NONE; 64],
+            next: [NONE; 1024],
+        }
     }
-}
 
-fn place(word: u32) -> usize
-    ensures { result ≡ word }
-{
-    word as usize
-}
+    // Links all blocks, from the last to the first: what was the oldest block of a flow comes next after the one before it.
+    pub fn link(&mut self, load: &Load<'_>)
+        requires { self.old ≡ unlinked }
+        ensures { Follows (load_of load.now.counts load.now.blocks.now) (replicate most 0) self.new }
+    {
+        for block in (0..load.counts.blocks).rev() {
+            let flow = load.blocks[6 * block] as usize;
+            self.next[block] = self.oldest[flow];
+            self.oldest[flow] = block as u32;
+        }
+    }
 
-// The oldest block of a flow that isn't started.
-pub fn oldest(queues: &Storage, flow: usize) -> usize
-    requires { flow < most }
-    ensures { result ≡ oldest_in queues.now flow }
-{
-    place(queues[flow])
-}
+    // The oldest block of a flow that isn't started.
+    pub fn oldest(&self, flow: usize) -> usize
+        requires { flow < most }
+        ensures { result ≡ oldest_in self.now flow }
+    {
+        self.oldest[flow] as usize
+    }
 
-// The oldest block of a flow starts, and the one that it is linked to is the oldest then.
-pub fn start(queues: &mut Storage, flow: usize, block: usize)
-    requires { (flow < most) × (block < none) }
-    ensures { queues.new ≡ advanced queues.old flow block }
-{
-    queues[flow] = queues[FLOWS + block];
+    // The oldest block of a flow starts, and the one that it is linked to is the oldest then.
+    pub fn start(&mut self, flow: usize, block: usize)
+        requires { (flow < most) × (block < none) }
+        ensures { self.new ≡ advanced self.old flow block }
+    {
+        self.oldest[flow] = self.next[block];
+    }
 }

@@ -1,33 +1,56 @@
--- Each call determines its answer: the row and the planner's numbers are those of the definition's start, at the places that the
--- queues follow.
+-- Each call determines its answer and the planner that it leaves: they are those of the definition's start, at the places that the
+-- queues follow. Of the queues, which no rule of the plan sees, `Follows` says what they are.
 use Prim.Native.Nat.{ℕ}
-use mathlib.Core.List.{List}
-use mathlib.Core.Option.{Option, none, some}
-use mathlib.Core.Path.{◌≡◌, sym, ap, ◌∙◌}
-use Rattle.load.proofs.Once.{OneAnswer, OneAnswerWhere}
+use mathlib.Core.List.{List, []}
+use mathlib.Core.Option.{Option as OptionOf, none, some}
+use mathlib.Core.Path.{◌≡◌, refl, sym, ap, ◌∙◌}
+use lib.ListN.{replicate}
+use Rattle.std.specs.Prelude.{None, Option, Some}
+use Rattle.load.proofs.Once.{OneAnswerWhere, OneExitWhere, OneValue}
 use Rattle.dominant.specs.Dominant.{dominant_time}
 use Rattle.rules.specs.Load.{block_at, Load}
-use Rattle.rules.specs.Plan.{Started}
-use Rattle.arrivals.proofs.Unique.{of_state}
-use Rattle.start.specs.declared.step.Next.TheVariants.{Start, Done}
-use Rattle.start.specs.declared.step.Next.{Next}
-use Rattle.start.specs.Next.{Answers}
+use Rattle.rules.specs.Plan.{Started, State}
+use Rattle.arrivals.specs.declared.state.Planner.{Planner}
+use Rattle.arrivals.specs.State.{state_of}
+use Rattle.queues.specs.Queues.{most}
+use Rattle.start.specs.declared.step.Start.{Start}
+use Rattle.start.specs.Next.{Answers, past}
 use Rattle.start.proofs.origin.origin.Reads as origin
 use Rattle.start.proofs.step.step.Reads as step
 
 -- the answer, from the start that it stands for
-of_started : Load → Option Started → Next
-of_started L none = Done
-of_started L (some q) = Start q.row (dominant_time (block_at L.table q.row.block)) (of_state q.then)
+of_started : Load → OptionOf Started → Option Start
+of_started L none = None
+of_started L (some q) = Some (record { row = q.row; time = dominant_time (block_at L.table q.row.block) })
 
-answer_of_lem : (L : Load) (n : Next) (list queues gate from : List ℕ) (o : Option Started) → Answers L n list queues gate from o → n ≡ of_started L o
+answer_of_lem : (L : Load) (n : Option Start) (p : Planner) (from : List ℕ) (o : OptionOf Started) → Answers L n p from o → n ≡ of_started L o
 unfolding Answers of_started
-answer_of_lem L Done list queues gate from o a = sym (ap (of_started L) a)
-answer_of_lem L (Start row time p) list queues gate from o a = ap (λ (t : ℕ). Start row t p) a.1 ∙ sym (ap (of_started L) a.0)
+answer_of_lem L None p from o a = sym (ap (of_started L) a)
+answer_of_lem L (Some s) p from o a = ap (λ (t : ℕ). Some (record { row = s.row; time = t })) a.1 ∙ sym (ap (of_started L) a.0)
 
-pub origin_once : OneAnswer origin.Post
-origin_once κs a r r' s s' p q = ap of_state (p ∙ sym q)
+-- what a planner stands for, but for the places, which it does not have
+abbrev seen : State → State
+seen s = record {
+  mode = s.mode;
+  core = record { clock = s.core.clock; line = s.core.line; round = s.core.round; turns = s.core.turns; from = []; gate = s.core.gate; way = s.core.way };
+}
+
+left_by : (L : Load) (n n' : Option Start) (p p' : Planner) (from : List ℕ) (o : OptionOf Started) → Answers L n p from o → Answers L n' p' from o → (n ≡ None → ⊥) → (n' ≡ None → ⊥)
+    → state_of p [] ≡ state_of p' []
+unfolding Answers
+left_by L None n' p p' from o a b is is' = absurd (is refl)
+left_by L (Some s) None p p' from o a b is is' = absurd (is' refl)
+left_by L (Some s) (Some s') p p' from o a b is is' =
+    let same : ◌≡◌ {A = Started} (record { row = s.row; then = state_of p (past from s.row) }) (record { row = s'.row; then = state_of p' (past from s'.row) }) = cc (a.0, b.0) in
+    ap (λ (q : Started). seen q.then) same
+
+pub origin_once : OneValue origin.Post {A = State} (λ κs p. state_of p (replicate most 0))
+origin_once κs a r r' s s' p q = p.0 ∙ sym q.0
 
 pub step_once : OneAnswerWhere step.Post step.Pre
 step_once κs a k r r' s s' p q =
-    answer_of_lem _ r _ _ _ _ _ (p k.1.from k.1.follows) ∙ sym (answer_of_lem _ r' _ _ _ _ _ (q k.1.from k.1.follows))
+    answer_of_lem _ r _ _ _ (p k.from k.follows) ∙ sym (answer_of_lem _ r' _ _ _ (q k.from k.follows))
+
+-- where there is a start
+pub step_leaves_once : OneExitWhere (λ κs a r s. step.Post κs a r s × (r ≡ None → ⊥)) step.Pre {A = State} (λ κs s. state_of s.1.0.now [])
+step_leaves_once κs a k r r' s s' p q = left_by _ r r' _ _ _ _ (p.0 k.from k.follows) (q.0 k.from k.follows) p.1 q.1

@@ -1,32 +1,27 @@
 -- The answer of one start, and the core before the first, as the definition's.
-use Rattle.std.specs.Prelude.{ℕ, ◌+◌, List, ◌≡◌, set}
-use Rattle.std.proofs.Math.Option.{Option, none, some}
-use Rattle.dominant.specs.Dominant.{dominant_stage, dominant_time}
+use Rattle.std.specs.Prelude.{ℕ, ◌+◌, List, ◌≡◌, set, Option, None, Some}
+use Rattle.std.proofs.Math.Option.{Option as OptionOf, none, some}
+use Rattle.dominant.specs.Dominant.{dominant_time}
 use Rattle.rules.specs.declared.row.Row.{Row}
 use Rattle.rules.specs.Load.{block_at, Load}
 use Rattle.rules.specs.Plan as plan
 use Rattle.arrivals.specs.declared.state.Core.{Core}
+use Rattle.arrivals.specs.declared.state.Planner.{Planner}
 use Rattle.arrivals.specs.State.{state_of}
 use Rattle.queues.specs.Queues.{Follows}
-use Rattle.start.specs.declared.step.Due.{Due}
-use Rattle.start.specs.declared.step.Next.{Next}
-use Rattle.start.specs.declared.step.Next.TheVariants.{Start, Done}
-
--- the block at a place of the table, with its dominant time and stage
-unfoldable pub due_of : List ℕ → ℕ → Due
-due_of table i = record { place = i; block = block_at table i; time = dominant_time (block_at table i); stage = dominant_stage (block_at table i) }
+use Rattle.start.specs.declared.step.Start.{Start}
 
 -- where each flow's blocks aren't started, once a row is
 abbrev pub past : List ℕ → Row → List ℕ
 past from r = set from r.flow (r.block + 1)
 
--- The answer is the definition's start, or that there is none, where the queues followed `from`; and so they do after it.
-unfoldable pub Answers : Load → Next → (list queues gate from : List ℕ) → Option plan.Started → Type 0
-Answers L Done list queues gate from o = o ≡ none
-Answers L (Start row time p) list queues gate from o =
-    (o ≡ some (record { row = row; then = state_of p list (past from row) gate }))
-    × (time ≡ dominant_time (block_at L.table row.block))
-    × Follows L (past from row) queues
+-- The answer is the definition's start, or that there is none, where the queues followed `from`; and so do the planner's after it.
+unfoldable pub Answers : Load → Option Start → Planner → List ℕ → OptionOf plan.Started → Type 0
+Answers L None p from o = o ≡ none
+Answers L (Some s) p from o =
+    (o ≡ some (record { row = s.row; then = state_of p (past from s.row) }))
+    × (s.time ≡ dominant_time (block_at L.table s.row.block))
+    × Follows L (past from s.row) p.queues
 
 -- nothing has arrived
 unfoldable pub at_first : Core

@@ -1,59 +1,58 @@
 // The planner before the first start.
-ghost use Rattle.std.specs.Prelude.{◌≡◌, [], replicate};
-ghost use Rattle.rules.specs.Load.{load_of};
+ghost use Rattle.std.specs.Prelude.{◌≡◌, replicate};
 ghost use Rattle.rules.specs.Plan.{origin as Plan·origin};
-ghost use Rattle.rules.specs.Within.{Accepted};
-ghost use Rattle.waiting.specs.Entries.{entries};
+ghost use Rattle.accept.specs.Loads.{the_load};
 ghost use Rattle.arrivals.specs.State.{state_of};
-ghost use Rattle.queues.specs.Queues.{Follows};
+ghost use Rattle.queues.specs.Queues.{Follows, most};
 ghost use Rattle.start.specs.Next.{at_first};
 
+use accept::accepted::Load;
 use arrivals::state::{Core, Planner};
-use load::counts::Counts;
-use queues::Storage as Queues;
+use queues::Queues;
+use rows::stages::NO_RUN;
 use rules::mode::Mode;
 use rules::round::Round;
-use rules::stages::{Span, Way};
-use waiting::Storage;
+use rules::stages::Way;
+use waiting::Waiting;
 
 // The core before anything has arrived.
+#[tactic(auto, unfolding(rules::specs::Plan::none_yet, crate::specs::Next::at_first))]
 fn nothing() -> Core
     ensures { result ≡ at_first }
 {
-    let none = Span {
-        start: 0,
-        finish: 0,
-    };
-    let way = Way {
-        one: none,
-        two: none,
-        three: none,
-        four: none,
-    };
-    let round = Round {
-        number: 0,
-        left: 0,
-        credit: 0,
-        most: 0,
-    };
     Core {
         clock: 0,
         next: 0,
-        round,
+        round: Round {
+            number: 0,
+            left: 0,
+            credit: 0,
+            most: 0,
+        },
         turns: 0,
-        way,
+        way: Way {
+            one: NO_RUN,
+            two: NO_RUN,
+            three: NO_RUN,
+            four: NO_RUN,
+        },
     }
 }
 
 // The planner at tick 0, with the arrivals of that tick.
-pub fn origin(counts: Counts, blocks: &[u32], list: &mut Storage, queues: &Queues) -> Planner
-    requires accepted { Accepted (load_of counts blocks.now) × (entries list.old ≡ []) }
-    requires follows { Follows (load_of counts blocks.now) (replicate 64 0) queues.now }
-    ensures { state_of result list.new (replicate 64 0) (replicate 64 0) ≡ Plan·origin (load_of counts blocks.now) }
+pub fn origin(load: &Load<'_>) -> Planner
+    ensures state { state_of result (replicate most 0) ≡ Plan·origin (the_load load.now) }
+    ensures follows { Follows (the_load load.now) (replicate most 0) result.queues }
 {
-    let core = arrivals::up_to(counts, blocks, Mode::Idle, 0, nothing(), list, queues);
-    Planner {
+    let mut queues = Queues::new();
+    queues.link(load);
+    let mut planner = Planner {
         mode: Mode::Idle,
-        core,
-    }
+        core: nothing(),
+        list: Waiting::new(),
+        queues,
+        gate: [0; 64],
+    };
+    arrivals::up_to(load, &mut planner, 0);
+    planner
 }

@@ -1,81 +1,79 @@
-// The list of waiting flows, each with its excess, in storage that is made here and lent. What is promised speaks of the
-// abstract list of entries alone, so nobody outside depends on where an entry lies or how the entries are counted.
+// The list of waiting flows, each with its excess. What is promised speaks of the list of entries alone, so nobody outside depends
+// on where an entry lies or how the entries are counted.
 #![tactic(auto)]
 
 ghost use Rattle.std.specs.Prelude.{◌≡◌, [], ◌∷◌, ◌++◌, length};
-ghost use Rattle.waiting.specs.Entries.{entries, Fits, head_of, place_of_head, rest_of, Room};
+ghost use Rattle.waiting.specs.Entries.{Fits, head_of, rest_of, Room};
 
 use rules::entry::Entry;
-
-#[derive(Clone, Copy)]
-pub enum Head {
-    Flow(Entry),
-    Empty,
-}
-
-// 64 places of two words, flow and excess. The entries lie one behind the other from the head's place on, and after place 63
-// comes place 0, so none ever moves. Behind the places stand the head's place and how many entries there are: two ends alone
-// would not tell 64 entries from none.
-pub type Storage = [u64; 130];
+use std::marker::Model;
 
 const PLACES: usize = 64;
 
-const HEAD: usize = 128;
-
-const COUNT: usize = 129;
-
-pub fn empty() -> Storage
-    ensures { entries result ≡ [] }
-{
-    [0; 130]
+// The entries lie one behind the other from the head's place on, and after place 63 comes place 0, so none ever moves. Beside the
+// places stand the head's and how many entries there are: two ends alone would not tell 64 entries from none.
+#[derive(Drop)]
+pub struct Waiting {
+    places: [Entry; PLACES],
+    head: usize,
+    count: usize,
 }
 
-// How many flows wait.
-pub fn length(list: &Storage) -> usize
-    ensures { result ≡ length (entries list.now) }
-{
-    list[COUNT] as usize
+impl Model for Waiting {
+    ghost use Rattle.std.specs.Prelude.{List};
+    ghost use Rattle.rules.specs.declared.entry.Entry.{Entry};
+    ghost use Rattle.waiting.specs.Entries.{entries};
+
+    ghost Value = { List Entry };
+
+    ghost view = { λ w. entries w.places w.head w.count };
 }
 
-// The head's place. It is brought round here, where it is read: 64 stands for place 0, and no word leads out of the places.
-fn head_place(list: &Storage) -> usize
-    ensures { result ≡ place_of_head list.now }
-{
-    list[HEAD] as usize % PLACES
-}
-
-// An entry joins at the tail, which moves on by one.
-pub fn join(list: &mut Storage, entry: Entry)
-    requires { Room (entries list.old) }
-    ensures { entries list.new ≡ entries list.old ++ (entry ∷ []) }
-{
-    let count = length(list);
-    let tail = (head_place(list) + count) % PLACES;
-    let words = &mut list[..];
-    let at = 2 * tail;
-    words[at] = entry.flow as u64;
-    words[at + 1] = entry.excess;
-    words[COUNT] = (count + 1) as u64;
-}
-
-// The head, which leaves the list: the place behind it is the head's then.
-pub fn take(list: &mut Storage) -> Head
-    requires { Fits (entries list.old) }
-    ensures { (result ≡ head_of (entries list.old)) × (entries list.new ≡ rest_of (entries list.old)) }
-{
-    let count = length(list);
-    if count == 0 {
-        return Head::Empty;
+impl Waiting {
+    // At first nobody waits.
+    #[tactic(auto, unfolding(crate::specs::Entries::entries, crate::specs::Entries::from))]
+    pub fn new() -> Waiting
+        ensures { result ≡ [] }
+    {
+        let unused = Entry { flow: 0, excess: 0 };
+        Waiting {
+            places: [unused; PLACES],
+            head: 0,
+            count: 0,
+        }
     }
-    let head = head_place(list);
-    let next = head + 1;
-    let at = 2 * head;
-    let entry = Entry {
-        flow: list[at] as usize,
-        excess: list[at + 1],
-    };
-    let words = &mut list[..];
-    words[HEAD] = next as u64;
-    words[COUNT] = (count - 1) as u64;
-    Head::Flow(entry)
+
+    // How many flows wait.
+    #[tactic(auto, using(crate::proofs::Places::length_entries))]
+    pub fn len(&self) -> usize
+        ensures { result ≡ length self.now }
+    {
+        self.count
+    }
+
+    // An entry joins at the tail, which moves on by one. The head's place is brought round where it is read, here and in `take`:
+    // 64 stands for place 0, and no number leads out of the places.
+    #[tactic(auto, using(crate::proofs::Places::length_entries))]
+    pub fn join(&mut self, entry: Entry)
+        requires { Room self.old }
+        ensures { self.new ≡ self.old ++ (entry ∷ []) }
+    {
+        let tail = (self.head % PLACES + self.count) % PLACES;
+        self.places[tail] = entry;
+        self.count += 1;
+    }
+
+    // The head, if anyone waits, leaves the list: the place behind it is the head's then.
+    pub fn take(&mut self) -> Option<Entry>
+        requires { Fits self.old }
+        ensures { (result ≡ head_of self.old) × (self.new ≡ rest_of self.old) }
+    {
+        if self.count == 0 {
+            return None;
+        }
+        let head = self.head % PLACES;
+        self.head = head + 1;
+        self.count -= 1;
+        Some(self.places[head])
+    }
 }

@@ -1,34 +1,54 @@
--- `mr3::plan` meets its contract: before the first start `Turn` holds, each thing noted keeps it, and at the end it is what the call promises.
-use mathlib.Core.Path.{refl}
-use Rattle.queues.specs.Queues.{unlinked}
-use Rattle.mr3.proofs.Goes.{Noted, turn_ends, turn_first, turn_next, turn_ready}
+-- `mr3::plan` meets its contract: before the first start `Goes` holds, each start keeps it, and at the end it is what the call promises.
+use mathlib.Core.Path.{sym}
+use native.Mathlib.Omega.{arith}
+use lib.Seq.{length-take-le}
+use Rattle.std.proofs.lemmas.Result.{err_from_is_err_and}
+use Rattle.mr3.proofs.Goes.{flows_there, goes_ends, goes_first, goes_on, On, refused, there_is_one}
 use Rattle.mr3.proofs.plan.Goals as goal
-use Rattle.mr3.proofs.plan.Goals.{After-next-going}
+use Rattle.mr3.proofs.plan.Goals.{In-Some, else-loop-i-test, then-loop-i-test+in_default}
 
-pub first-going-requires : goal.first-going-requires
-unfolding unlinked
-first-going-requires c = (c.empty-list.ensures, refl)
+pub returns-in_err-load : goal.returns-in_err-load
+returns-in_err-load c =
+    let p = err_from_is_err_and c.from_residual.result c.from_residual.ensures.1 in rw (p.1, p.2) (refused _ _ _ _ _ _ c.in_err-load.ensures.refused)
 
-pub loop-going-init : goal.loop-going-init
-loop-going-init c = turn_first _ _ _ _ _ _ _ _ c.first-going.ensures
+pub slice_bounds-empty-end : goal.slice_bounds-empty-end
+slice_bounds-empty-end c = flows_there _ _ _ _ _ c.in_ok-load.ensures.accepted
 
-pub next-going-requires : goal.next-going-requires
-next-going-requires c = turn_ready _ _ _ _ _ _ _ _ _ _ _ c.loop-going.invariant c.loop-going-test.true
+pub slice_bounds-empty-end-2 : goal.slice_bounds-empty-end-2
+slice_bounds-empty-end-2 c = sym (length-take-le _ _ (flows_there _ _ _ _ _ c.in_ok-load.ensures.accepted))
 
--- what is noted of a flow at this turn
-noted : (c : After-next-going) → Noted _ _ _ _ _ _ _ _ _ _ _ c.loop-going.invariant c.loop-going-test.true _ _ _ _ _ c.next-going.ensures
-noted c = turn_next _ _ _ _ _ _ _ _ _ _ _ c.loop-going.invariant c.loop-going-test.true _ _ _ _ _ c.next-going.ensures
+pub loop-i-init : goal.loop-i-init
+loop-i-init c =
+    let lent = c.in_ok-load.ensures.lent in
+    let origin = c.origin-planner.ensures in
+    goes_first _ _ _ _ _ c.in_ok-load.ensures.accepted _ (rw (lent.0, lent.1) at origin.state) (rw (lent.0, lent.1) at origin.follows) _ c.default-tally.ensures _ c.empty.ensures
 
-pub note-requires : goal.note-requires
-note-requires c = let on = noted (goal.at.note-requires c).After-next-going in (on.here, on.fits)
+-- what is noted and counted of this start
+on : (c : In-Some) → On c.args.counts c.args.limit c.args.blocks.now c.args.flows.now c.args.rows.now c.loop-i.i c.loop-i.planner c.loop-i.tally c.loop-i.flows c.loop-i.rows c.in-Some.start c.step.new.planner
+on c =
+    let lent = c.in_ok-load.ensures.lent in
+    goes_on c.loop-i.invariant (omega arith) ((simp (lent.0, lent.1) at c.in-Some.ensures) c.loop-i.invariant.from c.loop-i.invariant.follows)
 
-pub loop-going-preserved : goal.loop-going-preserved
-loop-going-preserved c =
-    let on = noted (goal.at.loop-going-preserved c).After-next-going in
-    rw c.note.ensures on.turn
+pub note-requires-clause-flow : goal.note-requires-clause-flow
+note-requires-clause-flow c = (on (goal.at.note-requires-clause-flow c).In-Some).flow
 
-pub loop-going-smaller : goal.loop-going-smaller
-loop-going-smaller c = let on = noted (goal.at.loop-going-smaller c).After-next-going in on.less
+pub note-requires-clause-fits : goal.note-requires-clause-fits
+note-requires-clause-fits c = (on (goal.at.note-requires-clause-fits c).In-Some).fits
+
+pub count-requires-clause-held : goal.count-requires-clause-held
+count-requires-clause-held c = (on (goal.at.count-requires-clause-held c).In-Some).held
+
+pub count-requires-clause-ticks : goal.count-requires-clause-ticks
+count-requires-clause-ticks c = (on (goal.at.count-requires-clause-ticks c).In-Some).ticks
+
+pub loop-i-preserved : goal.loop-i-preserved
+loop-i-preserved c = rw c.note.ensures ((on (goal.at.loop-i-preserved c).In-Some).goes _ c.count.ensures.held c.count.ensures.ticks _ c.write.ensures)
 
 pub returns : goal.returns
-returns c = rw c.answer.ensures (turn_ends _ _ _ _ _ _ _ _ _ _ _ c.loop-going.invariant c.loop-going-test.false)
+returns c =
+    let lent = c.in_ok-load.ensures.lent in
+    let g = c.loop-i.invariant in
+    elim c.loop-i-test.branch [
+      | else-loop-i-test w ↦ rw (c.summary.ensures, w.planner-is, c.listed-listed.ensures) (goes_ends g (omega arith))
+      | then-loop-i-test+in_default w ↦ there_is_one g (omega arith) _ ((simp (lent.0, lent.1, w.in_default.is) at w.step.ensures) g.from g.follows)
+    ]

@@ -1,32 +1,28 @@
--- `start::origin::origin` meets its contract: the arrivals of tick 0, of a planner that has seen nothing.
-use mathlib.Core.Bool.{true≢false}
-use mathlib.Core.Path.{ap, sym}
-use native.Mathlib.Omega.{arith}
-use lib.ListN.{replicate}
+-- `start::origin::origin` meets its contract: nothing has arrived and no flow is known, and `up_to` takes the arrivals of tick 0.
+use Rattle.std.proofs.Common.{ap, arith, replicate}
 use Rattle.rules.specs.declared.mode.Mode.TheVariants.{Idle}
 use Rattle.rules.specs.Plan.{origin, state}
 use Rattle.rules.specs.Waiting.{listed}
 use Rattle.rules.proofs.Blocks.{get_d_zeros}
+use Rattle.queues.specs.Queues.{most}
 use Rattle.start.specs.Next.{at_first}
 use Rattle.start.proofs.origin.origin.Goals as goal
 
-pub up_to-core-requires : goal.up_to-core-requires
+pub up_to-requires : goal.up_to-requires
 unfolding at_first listed
-up_to-core-requires c =
-    let k = c.requires in
-    record {
-      accepted = k.accepted.0;
-      stands = rw (c.nothing.ensures, k.accepted.1) (record {
-        arrived = omega arith;
-        lists = record { apart = tt; below = tt };
-        from = replicate 64 0;
-        follows = k.follows;
-        passed = λ f. omega (arith, get_d_zeros 64 f);
-        queue = record { placed = λ i h left. absurd (omega arith); owes = λ f e. absurd (true≢false (sym e)) };
-      });
-    }
+up_to-requires c = record {
+  stands = rw (c.nothing.ensures, c.new.ensures) (record {
+    arrived = omega arith;
+    lists = record { apart = tt; below = tt };
+    from = replicate most 0;
+    follows = c.link.ensures;
+    passed = λ f. omega (arith, get_d_zeros most f);
+    queue = record { placed = λ i h left. absurd (omega arith); owes = λ f e. cc };
+  });
+}
 
-pub returns : goal.returns
+pub returns-clause-state : goal.returns-clause-state
 unfolding origin state at_first
-returns c =
-    ap (state Idle) (rw (c.nothing.ensures, c.requires.accepted.1) at (c.up_to-core.ensures (replicate 64 0) (replicate 64 0)))
+returns-clause-state c =
+    let moved = c.up_to.ensures in
+    rw moved.mode (ap (state Idle) (rw (c.nothing.ensures, c.new.ensures) at (moved.core (replicate most 0))))

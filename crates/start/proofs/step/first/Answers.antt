@@ -1,43 +1,16 @@
 -- `start::step::first` meets its contract: no block waits, or the oldest is started and the flow's gate is set.
-use mathlib.Core.List.{[]}
-use mathlib.Core.Option.{some}
-use mathlib.Core.Path.{ap, sym, ◌∙◌}
-use native.Mathlib.Omega.{arith}
-use lib.ListN.{set}
-use Rattle.rules.specs.Plan.{begins}
-use Rattle.decide.proofs.Deciding.{starts, starts_not, the_oldest}
-use Rattle.start.specs.Next.{Answers}
-use Rattle.start.proofs.Starting.{first_is, row_due, row_time}
+use Rattle.rules.specs.Plan.{after}
+use Rattle.start.proofs.Starting.{makes_first, no_first}
 use Rattle.start.proofs.step.first.Goals as goal
 
-pub returns-then-next-place : goal.returns-then-next-place
-unfolding begins Answers
-returns-then-next-place c = λ from follows.
-    let k = c.requires.starts in
-    starts_not _ _ _ follows k.0.stands.arrived _ k.1.0 _ c.oldest-place.ensures _ c.if-next-place.true
-
-pub due_at-due-requires : goal.due_at-due-requires
-due_at-due-requires c =
+pub returns-in_err-start : goal.returns-in_err-start
+returns-in_err-start c = λ from follows.
     let k = c.requires in
-    omega (arith, k.accepted.blocks, k.accepted.room, k.starts.0.stands.arrived, c.if-next-place.false)
-
-pub after-then-requires : goal.after-then-requires
-after-then-requires c =
-    let row = c.row_of-row.ensures c.args.blocks.now [] [] [] _ c.due_at-due.ensures in
-    record { accepted = c.requires.accepted; starts = c.requires.starts; oldest = row_due _ _ _ _ _ _ _ row c.args.queues.now _ c.oldest-place.ensures c.if-next-place.false; dominant = row_time _ _ _ _ _ _ _ row _ c.due_at-due.ensures }
+    rw c.from_residual.ensures (no_first _ c.args.planner.now _ from follows k.0.stands.arrived k.1.0 _ _ c.in_err-start.ensures.none)
 
 pub returns : goal.returns
-unfolding begins Answers
+unfolding after
 returns c = λ from follows.
-    let gate = c.args.gate.now in
-    let row = c.row_of-row.ensures c.args.blocks.now c.args.list.now from gate _ c.due_at-due.ensures in
-    let waits = c.if-next-place.false in
-    let last = c.last_start in
-    let after = c.after-then.ensures from gate (set gate c.args.turn.flow last.result) follows in
-    let found = the_oldest _ _ _ follows c.requires.starts.0.stands.arrived _ c.requires.starts.1.0 _ c.oldest-place.ensures waits in
-    let then = rw last.ensures at after.0 in (
-      rw last.ensures
-          (starts _ _ _ follows c.requires.starts.0.stands.arrived _ c.requires.starts.1.0 _ c.oldest-place.ensures _ waits ∙ sym (ap some (first_is _ _ _ _ _ _ found _ row then))),
-      row_time _ _ _ _ _ _ _ row _ c.due_at-due.ensures,
-      after.1,
-    )
+    let k = c.requires in
+    let start = c.in_ok-start.ensures in
+    makes_first _ _ _ from follows k.0.stands.arrived k.1.0 _ start.some _ _ (start.row from) (rw c.last_start.ensures at (c.after.ensures from follows))

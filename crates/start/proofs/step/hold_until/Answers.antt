@@ -5,12 +5,14 @@ use native.Mathlib.Omega.{arith}
 use Rattle.rules.specs.Plan.{begun, Core, up_to}
 use Rattle.start.proofs.step.hold_until.Goals as goal
 
-pub overflow_add-result : goal.overflow_add-result
+pub overflow_add-planner : goal.overflow_add-planner
 unfolding up_to
-overflow_add-result c =
-    let same = ap (λ (x : Core). x.turns) (c.up_to-woken.ensures [] []) in
-    omega (arith, same, c.requires.stands.1)
+overflow_add-planner c =
+    let same = ap (λ (x : Core). x.turns) (c.up_to.ensures.core []) in
+    omega (arith, same, c.requires.1)
 
 pub returns : goal.returns
 unfolding begun
-returns c = λ from gate. ap begun (c.up_to-woken.ensures from gate)
+returns c =
+    let moved = c.up_to.ensures in
+    record { core = λ from. ap begun (moved.core from); mode = moved.mode; queues = moved.queues; gate = moved.gate }

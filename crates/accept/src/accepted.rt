@@ -1,0 +1,33 @@
+// The load that a plan call works on, with the proof that the call accepts it: who has such a load need not test it again.
+ghost use Rattle.std.specs.Prelude.{◌≡◌, Err, IfErr, IfOk, Ok, OnOk};
+ghost use Rattle.rules.specs.Calls.{plan_verdict};
+ghost use Rattle.rules.specs.Load.{load_of};
+ghost use Rattle.rules.specs.Within.{Accepted};
+
+use load::counts::Counts;
+use load::refusal::Refusal;
+
+// The counts and the block table of a load that the plan call accepts.
+#[derive(Clone, Copy)]
+pub struct Load<'a> {
+    pub counts: Counts,
+    pub blocks: &'a [u32],
+    pub ghost accepted: { Accepted (load_of counts blocks.now) },
+}
+
+// The load of a call, where every test is passed, and else the refusal that applies first.
+#[tactic(auto, using(rules::proofs::Accepting::accepted))]
+pub fn accept<'a>(
+    counts: Counts,
+    limit: u64,
+    blocks: &'a [u32],
+    flow_records: usize,
+    row_words: usize,
+) -> Result<Load<'a>, Refusal>
+    ensures accepted { OnOk result (plan_verdict counts limit blocks.now flow_records row_words ≡ Ok tt) }
+    ensures lent { IfOk result (λ load. (load.counts ≡ counts) × (load.blocks.now ≡ blocks.now)) }
+    ensures refused { IfErr result (λ why. plan_verdict counts limit blocks.now flow_records row_words ≡ Err why) }
+{
+    crate::test(counts, limit, blocks, flow_records, row_words)?;
+    Ok(Load { counts, blocks })
+}

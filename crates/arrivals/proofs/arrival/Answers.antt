@@ -1,9 +1,0 @@
--- `arrivals::arrival` meets its contract: the second of the block's six words.
-use lib.Seq.{get_or-drop}
-use Rattle.load.specs.Blocks.{block_of}
-use Rattle.rules.specs.Load.{block_at}
-use Rattle.arrivals.proofs.arrival.Goals as goal
-
-pub returns : goal.returns
-unfolding block_at block_of
-returns c = rw get_or-drop

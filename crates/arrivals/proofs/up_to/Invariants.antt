@@ -1,0 +1,7 @@
+-- `arrivals::up_to` meets its contract: at each turn what is left to be taken, from the line reached, gives the whole line.
+use Rattle.accept.specs.Loads.{the_load}
+use Rattle.arrivals.proofs.Taking.{Taking}
+use Rattle.arrivals.proofs.up_to.Given as goal
+
+abbrev pub invariant-loop-block : goal.invariant-loop-block
+invariant-loop-block l = Taking (the_load l.load) l.tick l.fn.planner l.planner l.block
