@@ -5,7 +5,6 @@ ghost use Rattle.rules.specs.Rows.{row_words};
 use rules::row::Row;
 
 // Writes a row at the start of the rest of the lent table.
-#[tactic(auto, unfolding(rules::specs::Rows::row_words, rules::specs::Rows::way_words))]
 pub fn write(rest: &mut [u64], row: Row)
     requires { 15 ≤ length rest.old }
     ensures { rest.new ≡ row_words row ++ drop 15 rest.old }
