@@ -79,7 +79,10 @@ impl Room {
         let file = part(from, &mut self.file, head.file)?;
         match head.call {
             Call::Sound => sound(out, file),
-            Call::Read(words) => { read(out, file, self.blocks.get_mut(..words).ok_or(BadCase)?) }
+            Call::Read(words) => {
+                let blocks = self.blocks.get_mut(..words).ok_or(BadCase)?;
+                read(out, file, blocks);
+            }
             Call::Name(flow) => name(out, file, standing, flow),
             Call::Plan => planned::run(out, standing, file, &mut self.blocks, &mut self.rows)?,
         }

@@ -1,11 +1,11 @@
 // The line of a plan's case.
-ghost use Rattle.std.specs.Prelude.{◌≤◌};
+ghost use Rattle.std.specs.Prelude.{◌≤◌, length};
 
-use crate::record::Flows;
 use crate::{record, table};
 use line::Page;
 use load::refusal::Verdict;
 use rules::answer::Planned;
+use rules::record::FlowRecord;
 
 fn put_planned(out: &mut Page, planned: Planned) {
     match planned {
@@ -26,13 +26,13 @@ fn put_planned(out: &mut Page, planned: Planned) {
     }
 }
 
-// The case's line: the answer, the first n records lent and the rows.
-pub fn put(out: &mut Page, planned: Planned, flows: &Flows, n: usize, rows: &[u64])
-    requires { n ≤ 128 }
+// The case's line: the answer, the records lent and the rows.
+pub fn put(out: &mut Page, planned: Planned, flows: &[FlowRecord], rows: &[u64])
+    requires { length flows.now ≤ 128 }
 {
     put_planned(out, planned);
     out.text(b" |");
-    table::put(out, record::words(flows)[..n].as_flattened());
+    table::put(out, record::words(flows)[..flows.len()].as_flattened());
     out.text(b" |");
     table::put(out, rows);
 }

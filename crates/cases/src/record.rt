@@ -17,6 +17,10 @@ pub fn marked() -> Flows {
 }
 
 // Three words for each record.
-pub fn words(flows: &Flows) -> [[u64; 3]; 128] {
-    flows.map(|record| [record.blocks, record.turns, record.time])
+pub fn words(flows: &[FlowRecord]) -> [[u64; 3]; 128] {
+    let mut words = [[0; 3]; 128];
+    for (words, flow) in words.iter_mut().zip(flows) {
+        *words = [flow.blocks, flow.turns, flow.time];
+    }
+    words
 }

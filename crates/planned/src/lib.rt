@@ -5,7 +5,7 @@ use cases::parameters::Parameters;
 use cases::{BadCase, answer, parameters, record, table};
 use line::Page;
 
-// Lends just the records and the words that the parameters give.
+// Lends just the records and the words that the parameters give. The case is bad where there are fewer.
 fn lend(
     out: &mut Page,
     given: Parameters,
@@ -13,11 +13,11 @@ fn lend(
     rows: &mut [u64],
 ) -> Result<(), BadCase> {
     let mut flows = record::marked();
-    let lent = flows.get_mut(..given.flow_records).ok_or(BadCase)?;
+    let flows = flows.get_mut(..given.flow_records).ok_or(BadCase)?;
     let rows = rows.get_mut(..given.row_words).ok_or(BadCase)?;
     table::mark(rows, 6_000_000_000);
-    let planned = mr3::plan(given.counts, given.limit, blocks, lent, rows);
-    answer::put(out, planned, &flows, given.flow_records, rows);
+    let planned = mr3::plan(given.counts, given.limit, blocks, flows, rows);
+    answer::put(out, planned, flows, rows);
     Ok(())
 }
 
