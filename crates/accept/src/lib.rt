@@ -4,19 +4,18 @@
 ghost use Rattle.std.specs.Prelude.{◌≡◌, ◌*◌, ◌≤◌, min, length};
 ghost use Rattle.rules.specs.Calls.{blocks_verdict, plan_verdict, short as Calls·short};
 
+use load::block::Block;
 use load::counts::Counts;
-use load::refusal::{Refusal, Verdict};
+use load::refusal::Refusal;
 
 // How many blocks the plan will list.
 pub fn listed(limit: u64, blocks: usize) -> usize
     ensures { result ≡ min limit blocks }
 {
-    if limit < blocks as u64 {
-        return limit as usize;
-    }
-    blocks
+    limit.min(blocks as u64) as usize
 }
 
+#[tactic(auto, unfolding(rules::specs::Calls::short))]
 fn short(
     counts: Counts,
     limit: u64,
@@ -27,51 +26,38 @@ fn short(
     requires { (counts.flows ≤ 64) × (counts.blocks ≤ 1024) }
     ensures { result ≡ Calls·short counts limit block_words flow_records row_words }
 {
-    if block_words < 6 * counts.blocks {
-        return true;
-    }
-    if flow_records < counts.flows {
-        return true;
-    }
-    row_words < 15 * listed(limit, counts.blocks)
+    block_words < 6 * counts.blocks
+        || flow_records < counts.flows
+        || row_words < 15 * listed(limit, counts.blocks)
 }
 
 // Tests 8 to 11, block by block.
-fn test_blocks(counts: Counts, blocks: &[u32]) -> Verdict
+fn test_blocks(counts: Counts, blocks: &[u32]) -> Result<(), Refusal>
     requires { (counts.blocks ≤ 1024) × (6 * counts.blocks ≤ length blocks.now) }
     ensures { result ≡ blocks_verdict counts 0 counts.blocks blocks.now }
 {
-    let mut at = 0;
     let mut above = 0;
-    let mut left = counts.blocks;
-    while 0 < left {
-        let block = load::block::at(&blocks[at..]);
-        let verdict = limits::block::test(counts, above, block);
-        let Verdict::Accepted = verdict else {
-            return verdict;
-        };
+    for words in blocks.chunks_exact(6).take(counts.blocks) {
+        let block = Block::at(words);
+        limits::block::test(counts, above, block)?;
         above = block.arrival;
-        at += 6;
-        left -= 1;
     }
-    Verdict::Accepted
+    Ok(())
 }
 
+#[tactic(auto, unfolding(rules::specs::Calls::plan_verdict, rules::specs::Calls::and_then, load::specs::Refusals::given))]
 pub fn test(
     counts: Counts,
     limit: u64,
     blocks: &[u32],
     flow_records: usize,
     row_words: usize,
-) -> Verdict
+) -> Result<(), Refusal>
     ensures { result ≡ plan_verdict counts limit blocks.now flow_records row_words }
 {
-    let verdict = limits::counts::test(counts);
-    let Verdict::Accepted = verdict else {
-        return verdict;
-    };
+    limits::counts::test(counts)?;
     if short(counts, limit, blocks.len(), flow_records, row_words) {
-        return Verdict::Refused(Refusal::ShortTable);
+        return Err(Refusal::ShortTable);
     }
     test_blocks(counts, blocks)
 }

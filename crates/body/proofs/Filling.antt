@@ -1,4 +1,5 @@
 -- Filling the block table: what holds when the blocks above the byte reached have been written, and that one more block keeps it.
+use Rattle.std.specs.Prelude.{Ok}
 use Prim.Native.Nat.{ℕ, ◌+◌, ◌-◌, ◌*◌, ◌≤◌, ◌<◌}
 use mathlib.Core.List.{List, ◌++◌, append_assoc, append-nil}
 use mathlib.Core.Path.{◌≡◌, refl, sym, ap, ◌∙◌}
@@ -9,7 +10,6 @@ use Rattle.load.specs.declared.block.Block.{Block}
 use Rattle.load.specs.declared.counts.Counts.{Counts}
 use Rattle.load.specs.Blocks.{words_of}
 use Rattle.load.proofs.Parts.{drop_over, length_over, over, take_over}
-use Rattle.records.specs.declared.record.Walk.TheVariants.{At}
 use Rattle.records.specs.Answers.{list_of, walk_of}
 use Rattle.records.specs.Records.{block_in, block_record, block_records, parsed}
 use Rattle.body.specs.Body.{table_words}
@@ -21,7 +21,7 @@ module _ (file : List ℕ) (counts : Counts) (from : ℕ) (table₀ : List ℕ) 
     pub above : ℕ
     pub within : at ≤ length file
     pub place : to + 6 * left ≡ 6 * counts.blocks
-    pub walk : walk_of (block_records file counts above left at) ≡ At (length file)
+    pub walk : walk_of (block_records file counts above left at) ≡ Ok (length file)
     pub long : length table ≡ length table₀
     pub kept : drop to table ≡ drop to table₀
     pub words : table_words (list_of (block_records file counts 0 counts.blocks from)) ≡ take to table ++ table_words (list_of (block_records file counts above left at))
@@ -39,7 +39,7 @@ module _ (file : List ℕ) (counts : Counts) (from : ℕ) (table₀ : List ℕ) 
     unfolding words_of table_words
     filling_step h room b same =
         let read : block_record counts f.above (drop at file) ≡ parsed b (7 + 4 * counts.stages) = rw same (filling_reads h) in
-        let next = blocks_next file counts f.above at left b _ h read in
+        let next = blocks_next file counts f.above at left (left - 1) b _ (omega arith) read in
         let on = sym (ap walk_of next ∙ walk_onto b _) ∙ f.walk in
         let fits : to + 6 ≤ length table = omega (arith, f.place, f.long) in
         record {

@@ -1,14 +1,12 @@
 -- A flow's own name is found by walking over the flow records above it.
+use Rattle.std.specs.Prelude.{Ok, Err}
 use Prim.Native.Nat.{ℕ, zero, suc, ◌+◌, ◌<◌}
 use mathlib.Core.List.{List, ◌∷◌}
 use mathlib.Core.Path.{◌≡◌, refl, sym, ap, ◌∙◌}
-use native.Mathlib.Numerals.{sub-one}
 use native.Mathlib.Omega.{arith}
 use lib.ListN.{get_or, drop}
-use Rattle.records.specs.declared.record.Walk.TheVariants.{At, Stopped}
-use Rattle.records.specs.declared.record.Walk.{Walk}
 use Rattle.records.specs.Answers.{walk_of}
-use Rattle.records.specs.Records.{Parsed, refused, parsed, onto, past, flow_record, flow_records, name_in}
+use Rattle.records.specs.Records.{Parsed, Walk, refused, parsed, onto, past, flow_record, flow_records, name_in}
 use Rattle.records.specs.Parts.{Part, empty}
 use Rattle.records.proofs.Records.{flow_record_reads}
 use Rattle.body.specs.Body.{name_after, name_at}
@@ -18,20 +16,20 @@ use Rattle.body.proofs.Walks.{flows_end, flows_next}
 pub record FlowsRead (s : List ℕ) (k at end : ℕ) (names : List Part) : Type 0 where
   pub others : List Part
   pub size : ℕ
-  pub first : flow_record (drop at s) ≡ At size
+  pub first : flow_record (drop at s) ≡ Ok size
   pub rest : flow_records s k (at + size) ≡ parsed others end
   pub all : names ≡ name_in at size ∷ others
 
 pub flows_read : (s : List ℕ) (k at end : ℕ) (names : List Part) → flow_records s (suc k) at ≡ parsed names end → FlowsRead s k at end names
 unfolding flow_records past onto
 flows_read s k at end names e = go (flow_record (drop at s)) refl e where
-  rest : (size : ℕ) → flow_record (drop at s) ≡ At size → (q : Parsed (List Part)) → flow_records s k (at + size) ≡ q → onto (name_in at size) q ≡ parsed names end → FlowsRead s k at end names
-  rest size m (refused r) n e = let z : ◌≡◌ {A = ℕ} 0 1 = cc in absurd (omega arith)
+  rest : (size : ℕ) → flow_record (drop at s) ≡ Ok size → (q : Parsed (List Part)) → flow_records s k (at + size) ≡ q → onto (name_in at size) q ≡ parsed names end → FlowsRead s k at end names
+  rest size m (refused r) n e = absurd (cc)
   rest size m (parsed others last) n e = record { others = others; size = size; first = m; rest = cc; all = cc }
 
   go : (w : Walk) → flow_record (drop at s) ≡ w → past w (λ size. onto (name_in at size) (flow_records s k (at + size))) ≡ parsed names end → FlowsRead s k at end names
-  go (Stopped r) m e = let z : ◌≡◌ {A = ℕ} 0 1 = cc in absurd (omega arith)
-  go (At size) m e = rest size m (flow_records s k (at + size)) refl e
+  go (Err r) m e = absurd (cc)
+  go (Ok size) m e = rest size m (flow_records s k (at + size)) refl e
 
 pub own_name : (s : List ℕ) (count at end : ℕ) (names : List Part) → flow_records s count at ≡ parsed names end
     → (flow : ℕ) → flow < count → name_after s (walk_of (flow_records s flow at)) ≡ get_or names flow empty
@@ -43,6 +41,5 @@ own_name s (suc k) at end names e zero h =
     (sym (ap (λ (l : List Part). get_or l 0 empty) r.all))
 own_name s (suc k) at end names e (suc flow) h =
     let r = flows_read s k at end names e in
-    let next = flows_next s at (suc flow) r.size (omega arith) r.first in
-    rw (next, sub-one) (own_name s k (at + r.size) end r.others r.rest flow (omega arith))
+    rw (flows_next s at (suc flow) flow r.size (omega arith) r.first) (own_name s k (at + r.size) end r.others r.rest flow (omega arith))
     ∙ sym (ap (λ (l : List Part). get_or l (suc flow) empty) r.all)

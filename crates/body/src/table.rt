@@ -1,6 +1,5 @@
 // The block table, once the whole file is found sound.
-ghost use Rattle.std.specs.Prelude.{◌≡◌, ◌++◌, ◌*◌, ◌≤◌, drop, length};
-ghost use Rattle.records.specs.declared.record.Walk.TheVariants.{At};
+ghost use Rattle.std.specs.Prelude.{Ok, ◌≡◌, ◌++◌, ◌*◌, ◌≤◌, drop, length};
 ghost use Rattle.records.specs.Records.{block_records};
 ghost use Rattle.records.specs.Answers.{list_of, walk_of};
 ghost use Rattle.body.specs.Body.{table_words};
@@ -11,7 +10,7 @@ use records::record;
 // Writes the blocks whose records start at `from`, and leaves the room beyond them.
 pub fn fill(file: &[u8], counts: Counts, from: usize, table: &mut [u32])
     requires in_range { (counts.stages ≤ 4) × (from ≤ length file.now) × (6 * counts.blocks ≤ length table.old) }
-    requires sound { walk_of (block_records file.now counts 0 counts.blocks from) ≡ At (length file.now) }
+    requires sound { walk_of (block_records file.now counts 0 counts.blocks from) ≡ Ok (length file.now) }
     ensures { table.new
         ≡ table_words (list_of (block_records file.now counts 0 counts.blocks from)) ++ drop (6 * counts.blocks) table.old }
 {
@@ -21,7 +20,7 @@ pub fn fill(file: &[u8], counts: Counts, from: usize, table: &mut [u32])
     let mut left = counts.blocks;
     while 0 < left {
         let block = record::fields(&file[at..], counts.stages);
-        load::block::put(&mut table[to..], block);
+        block.put(&mut table[to..]);
         at += size;
         to += 6;
         left -= 1;

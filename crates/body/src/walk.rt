@@ -8,83 +8,62 @@ ghost use Rattle.body.specs.Body.{body_walk, own_name_of};
 use load::counts::Counts;
 use load::refusal::Refusal;
 use records::record;
-use records::record::{Found, Walk};
 
 // The byte after so many flow records, which start at byte 10.
-fn flows(file: &[u8], count: usize) -> Walk
+#[tactic(auto, using(load::proofs::Parts::part_rest, crate::proofs::Walks::flow_within, crate::proofs::Walks::flows_stop, crate::proofs::Walks::flows_next, crate::proofs::Walks::flows_end))]
+fn flows(file: &[u8], count: usize) -> Result<usize, Refusal>
     requires { 10 ≤ length file.now }
     ensures { result ≡ walk_of (flow_records file.now count 10) }
 {
     let mut at = 10;
-    let mut left = count;
-    while 0 < left {
-        match record::flow(&file[at..]) {
-            Walk::Stopped(why) => {
-                return Walk::Stopped(why);
-            }
-            Walk::At(size) => {
-                at += size;
-            }
-        }
-        left -= 1;
+    for _ in 0..count {
+        at += record::flow(&file[at..])?;
     }
-    Walk::At(at)
+    Ok(at)
 }
 
 // The byte after the block records, which start at `from`.
-fn blocks(file: &[u8], counts: Counts, from: usize) -> Walk
+#[tactic(auto, using(load::proofs::Parts::part_rest, records::proofs::Records::block_found_reads, crate::proofs::Walks::block_within, crate::proofs::Walks::blocks_stop, crate::proofs::Walks::blocks_next, crate::proofs::Walks::blocks_end, crate::proofs::Walks::walk_onto), unfolding(records::specs::Answers::walk_of))]
+fn blocks(file: &[u8], counts: Counts, from: usize) -> Result<usize, Refusal>
     requires { (counts.stages ≤ 4) × (from ≤ length file.now) }
     ensures { result ≡ walk_of (block_records file.now counts 0 counts.blocks from) }
 {
     let size = 7 + 4 * counts.stages;
     let mut at = from;
     let mut above = 0;
-    let mut left = counts.blocks;
-    while 0 < left {
-        match record::block(&file[at..], counts, above) {
-            Found::Stopped(why) => {
-                return Walk::Stopped(why);
-            }
-            Found::Holds(block) => {
-                above = block.arrival;
-            }
-        }
+    for _ in 0..counts.blocks {
+        above = record::block(&file[at..], counts, above)?.arrival;
         at += size;
-        left -= 1;
     }
-    Walk::At(at)
+    Ok(at)
 }
 
 // Where the block records start in a file with a good header, if every record is sound and nothing follows.
-pub fn body(file: &[u8], counts: Counts) -> Walk
+#[tactic(auto, using(load::proofs::Cases::by_tests, crate::proofs::Walks::flows_within), unfolding(crate::specs::Body::body_walk, crate::specs::Body::body_blocks, crate::specs::Body::body_end, records::specs::Records::stop_if))]
+pub fn body(file: &[u8], counts: Counts) -> Result<usize, Refusal>
     requires { (counts.stages ≤ 4) × (10 ≤ length file.now) }
     ensures { result ≡ body_walk counts file.now }
 {
-    let flows_end = flows(file, counts.flows);
-    let Walk::At(from) = flows_end else {
-        return flows_end;
-    };
-    let blocks_end = blocks(file, counts, from);
-    let Walk::At(end) = blocks_end else {
-        return blocks_end;
-    };
+    let from = flows(file, counts.flows)?;
+    let end = blocks(file, counts, from)?;
     if end == file.len() {
-        flows_end
+        Ok(from)
     } else {
-        Walk::Stopped(Refusal::Record)
+        Err(Refusal::Record)
     }
 }
 
 // The name in a flow's record of a sound file: the part of the file after the record's length byte.
+#[tactic(auto, using(load::proofs::Parts::part_rest, crate::proofs::Walks::flows_within, records::proofs::Records::measure_within), unfolding(crate::specs::Body::own_name_of, crate::specs::Body::name_after, crate::specs::Body::name_at, records::specs::Records::name_in, records::specs::Parts::bytes_in, records::specs::Parts::place_in))]
 pub fn own_name(file: &[u8], flow: usize) -> &[u8]
     requires { 10 ≤ length file.now }
     ensures { IsPart file.entry (own_name_of file.now flow) result }
 {
-    let Walk::At(at) = flows(file, flow) else {
+    let Ok(at) = flows(file, flow) else {
         return &file[..0];
     };
     let rest = &file[at..];
-    let Walk::At(next) = record::measure(rest, 0, 31) else {
+    let Ok(next) = record::measure(rest, 0, 31) else {
         return &file[..0];
     };
     &rest[1..next]

@@ -4,7 +4,7 @@ use mathlib.Core.List.{List}
 use mathlib.Core.Path.{◌≡◌}
 use borrow.Author.Tests.{ltb-false}
 use lib.ListN.{length}
-use Rattle.load.specs.declared.refusal.Verdict.TheVariants.{Accepted}
+use Rattle.std.specs.Prelude.{Ok}
 use Rattle.load.proofs.Cases.{given_accepted, or_false}
 use Rattle.limits.proofs.Accepted.{CountsWithin, counts_within}
 use Rattle.header.specs.Header.{counts_in, header_verdict}
@@ -13,7 +13,7 @@ pub record Header (s : List ℕ) : Type 0 where
   pub long : 10 ≤ length s
   pub within : CountsWithin (counts_in s)
 
-pub header_good : (s : List ℕ) → header_verdict s ≡ Accepted → Header s
+pub header_good : (s : List ℕ) → header_verdict s ≡ Ok tt → Header s
 unfolding header_verdict
 header_good s e =
     let version = given_accepted _ _ _ e in

@@ -3,8 +3,7 @@
 use Rattle.std.specs.Prelude.{ℕ, ◌-◌, not, ◌||◌, List, eqb, ltb, length, get_or}
 use Rattle.load.specs.declared.counts.Counts.{Counts}
 use Rattle.load.specs.declared.refusal.Refusal.TheVariants.{Version, FileLength}
-use Rattle.load.specs.declared.refusal.Verdict.{Verdict}
-use Rattle.load.specs.Refusals.{given}
+use Rattle.load.specs.Refusals.{Verdict, given}
 use Rattle.limits.specs.Tests.{counts_verdict}
 use Rattle.records.specs.Records.{two_bytes, four_bytes}
 

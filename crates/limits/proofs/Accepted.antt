@@ -5,9 +5,9 @@ use mathlib.Core.Path.{◌≡◌, refl, sym, ◌∙◌}
 use native.Mathlib.Omega.{arith}
 use borrow.Author.Tests.{ltb-false, ltb-true, not-false}
 use lib.Dec.{ltb}
+use Rattle.std.specs.Prelude.{Ok}
 use Rattle.load.specs.declared.block.Block.{Block}
 use Rattle.load.specs.declared.counts.Counts.{Counts}
-use Rattle.load.specs.declared.refusal.Verdict.TheVariants as verdict
 use Rattle.load.proofs.Cases.{by_tests, cases, given_accepted, or_false}
 use Rattle.load.proofs.Stages.{four_cases, time_at}
 use Rattle.limits.specs.Tests.{is_all_zero, block_verdict, counts_verdict, is_over_limit, is_time_over}
@@ -18,7 +18,7 @@ pub record CountsWithin (c : Counts) : Type 0 where
   pub flows_within : c.flows ≤ 64
   pub blocks_within : c.blocks ≤ 1024
 
-pub counts_within : (c : Counts) → counts_verdict c ≡ verdict.Accepted → CountsWithin c
+pub counts_within : (c : Counts) → counts_verdict c ≡ Ok tt → CountsWithin c
 unfolding counts_verdict
 counts_within c e =
     let stages = given_accepted _ _ _ e in
@@ -62,7 +62,7 @@ some_time b e = go (b.time1 + b.time2 + b.time3 + b.time4) refl where
       absurd (true≢false (sym all ∙ e))
   go (suc n) some = omega arith
 
-pub block_within_limits : (c : Counts) (above : ℕ) (b : Block) → block_verdict c above b ≡ verdict.Accepted → BlockWithinLimits c above b
+pub block_within_limits : (c : Counts) (above : ℕ) (b : Block) → block_verdict c above b ≡ Ok tt → BlockWithinLimits c above b
 unfolding block_verdict is_over_limit
 block_within_limits c above b e =
     let flow = given_accepted _ _ _ e in

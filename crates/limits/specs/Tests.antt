@@ -1,17 +1,15 @@
 -- Tests 3 and 4 of the counts, and 8 to 11 of a block, in document 01's order.
-use Rattle.std.specs.Prelude.{ℕ, Bool, ◌&&◌, ◌||◌, cond, not, eqb, ltb}
+use Rattle.std.specs.Prelude.{ℕ, Bool, ◌&&◌, ◌||◌, cond, not, eqb, ltb, Ok}
 use Rattle.load.specs.declared.refusal.Refusal.TheVariants.{Stages, TooMany, NoSuchFlow, OverLimit, AllZero, OutOfOrder}
-use Rattle.load.specs.declared.refusal.Verdict.{Verdict}
-use Rattle.load.specs.declared.refusal.Verdict.TheVariants.{Accepted}
 use Rattle.load.specs.declared.counts.Counts.{Counts}
 use Rattle.load.specs.declared.block.Block.{Block}
-use Rattle.load.specs.Refusals.{given}
+use Rattle.load.specs.Refusals.{Verdict, given}
 
 unfoldable pub counts_verdict : Counts → Verdict
 counts_verdict c =
     given (ltb c.stages 1 || ltb 4 c.stages) Stages
     (given (ltb 64 c.flows || ltb 1024 c.blocks) TooMany
-    Accepted)
+    (Ok tt))
 
 -- a time at a stage, above its limit or above 0 where the load lacks the stage
 unfoldable pub is_time_over : ℕ → ℕ → ℕ → Bool
@@ -31,4 +29,4 @@ block_verdict c above b =
     (given (is_over_limit c.stages b) OverLimit
     (given (is_all_zero b) AllZero
     (given (ltb b.arrival above) OutOfOrder
-    Accepted)))
+    (Ok tt))))

@@ -4,9 +4,10 @@ ghost use Rattle.limits.specs.Tests.{is_all_zero, block_verdict, is_over_limit, 
 
 use load::block::Block;
 use load::counts::Counts;
-use load::refusal::{Refusal, Verdict};
+use load::refusal::Refusal;
 
 // The most that a time at a stage may be: its limit, or 0 where the load lacks the stage.
+#[tactic(auto, using(load::proofs::Cases::by_tests), unfolding(crate::specs::Tests::is_time_over))]
 fn most(stages: usize, stage: usize) -> u32
     ensures { (time : ℕ) → ltb result time ≡ is_time_over stages stage time }
 {
@@ -20,54 +21,40 @@ fn time_over(stages: usize, stage: usize, time: u32) -> bool
     most(stages, stage) < time
 }
 
+#[tactic(auto, using(load::proofs::Cases::by_tests), unfolding(crate::specs::Tests::is_over_limit))]
 fn over_limit(stages: usize, block: Block) -> bool
     ensures { result ≡ is_over_limit stages block }
 {
-    if 1_000_000_000 < block.arrival {
-        return true;
-    }
-    if time_over(stages, 1, block.time1) {
-        return true;
-    }
-    if time_over(stages, 2, block.time2) {
-        return true;
-    }
-    if time_over(stages, 3, block.time3) {
-        return true;
-    }
-    time_over(stages, 4, block.time4)
+    1_000_000_000 < block.arrival
+        || time_over(stages, 1, block.time1)
+        || time_over(stages, 2, block.time2)
+        || time_over(stages, 3, block.time3)
+        || time_over(stages, 4, block.time4)
 }
 
+#[tactic(auto, using(load::proofs::Cases::by_tests), unfolding(crate::specs::Tests::is_all_zero))]
 fn all_zero(block: Block) -> bool
     ensures { result ≡ is_all_zero block }
 {
-    if block.time1 != 0 {
-        return false;
-    }
-    if block.time2 != 0 {
-        return false;
-    }
-    if block.time3 != 0 {
-        return false;
-    }
-    block.time4 == 0
+    block.time1 == 0 && block.time2 == 0 && block.time3 == 0 && block.time4 == 0
 }
 
 // Tests 8 to 11 of a block below one that arrives at `above` (0 for the first).
-pub fn test(counts: Counts, above: u32, block: Block) -> Verdict
+#[tactic(auto, using(load::proofs::Cases::by_tests), unfolding(crate::specs::Tests::block_verdict, load::specs::Refusals::given))]
+pub fn test(counts: Counts, above: u32, block: Block) -> Result<(), Refusal>
     ensures { result ≡ block_verdict counts above block }
 {
     if counts.flows <= block.flow as usize {
-        return Verdict::Refused(Refusal::NoSuchFlow);
+        return Err(Refusal::NoSuchFlow);
     }
     if over_limit(counts.stages, block) {
-        return Verdict::Refused(Refusal::OverLimit);
+        return Err(Refusal::OverLimit);
     }
     if all_zero(block) {
-        return Verdict::Refused(Refusal::AllZero);
+        return Err(Refusal::AllZero);
     }
     if block.arrival < above {
-        return Verdict::Refused(Refusal::OutOfOrder);
+        return Err(Refusal::OutOfOrder);
     }
-    Verdict::Accepted
+    Ok(())
 }

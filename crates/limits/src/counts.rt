@@ -3,23 +3,18 @@ ghost use Rattle.std.specs.Prelude.{◌≡◌};
 ghost use Rattle.limits.specs.Tests.{counts_verdict};
 
 use load::counts::Counts;
-use load::refusal::{Refusal, Verdict};
+use load::refusal::Refusal;
 
 // Tests 3 and 4.
-pub fn test(counts: Counts) -> Verdict
+#[tactic(auto, using(load::proofs::Cases::by_tests), unfolding(crate::specs::Tests::counts_verdict, load::specs::Refusals::given))]
+pub fn test(counts: Counts) -> Result<(), Refusal>
     ensures { result ≡ counts_verdict counts }
 {
-    if counts.stages < 1 {
-        return Verdict::Refused(Refusal::Stages);
+    if !(1..=4).contains(&counts.stages) {
+        return Err(Refusal::Stages);
     }
-    if 4 < counts.stages {
-        return Verdict::Refused(Refusal::Stages);
+    if 64 < counts.flows || 1024 < counts.blocks {
+        return Err(Refusal::TooMany);
     }
-    if 64 < counts.flows {
-        return Verdict::Refused(Refusal::TooMany);
-    }
-    if 1024 < counts.blocks {
-        return Verdict::Refused(Refusal::TooMany);
-    }
-    Verdict::Accepted
+    Ok(())
 }

@@ -5,11 +5,10 @@ use Prim.Native.Nat.{ℕ}
 use mathlib.Core.Bool.{Bool, true, false, true≢false, cond, ◌&&◌, ◌||◌}
 use mathlib.Core.Path.{◌≡◌, refl, sym}
 use native.Mathlib.Omega.{arith}
+use Rattle.std.specs.Prelude.{Ok}
 use borrow.Author.Tests.{lt-ltb, le-ltb, le-leb, lt-leb, eq-eqb, ne_eqb}
 use Rattle.load.specs.declared.refusal.Refusal.{Refusal}
-use Rattle.load.specs.declared.refusal.Verdict.TheVariants.{Accepted}
-use Rattle.load.specs.declared.refusal.Verdict.{Verdict}
-use Rattle.load.specs.Refusals.{given}
+use Rattle.load.specs.Refusals.{Verdict, given}
 
 pub ruleset by_tests = (lt-ltb, le-ltb, le-leb, lt-leb, eq-eqb, ne_eqb)
 
@@ -35,7 +34,7 @@ pub or_false : (a b : Bool) → a || b ≡ false → (a ≡ false) × (b ≡ fal
 or_false true b e = absurd (true≢false e)
 or_false false b e = (refl, e)
 
-pub given_accepted : (b : Bool) (r : Refusal) (v : Verdict) → given b r v ≡ Accepted → (b ≡ false) × (v ≡ Accepted)
+pub given_accepted : (b : Bool) (r : Refusal) (v : Verdict) → given b r v ≡ Ok tt → (b ≡ false) × (v ≡ Ok tt)
 unfolding given
 given_accepted true r v e = let z : ◌≡◌ {A = ℕ} 0 1 = cc in absurd (omega arith)
 given_accepted false r v e = (refl, e)

@@ -1,9 +1,7 @@
 -- Document 01's refusal numbers.
-use Rattle.std.specs.Prelude.{ℕ, Bool, true, false}
+use Rattle.std.specs.Prelude.{ℕ, Bool, true, false, Result, Ok, Err}
 use Rattle.load.specs.declared.refusal.Refusal.{Refusal}
 use Rattle.load.specs.declared.refusal.Refusal.TheVariants.{Version, FileLength, Stages, TooMany, Record, NameByte, ShortTable, NoSuchFlow, OverLimit, AllZero, OutOfOrder}
-use Rattle.load.specs.declared.refusal.Verdict.{Verdict}
-use Rattle.load.specs.declared.refusal.Verdict.TheVariants.{Accepted, Refused}
 
 abbrev pub number_of : Refusal → ℕ
 number_of Version = 1
@@ -18,12 +16,16 @@ number_of OverLimit = 9
 number_of AllZero = 10
 number_of OutOfOrder = 11
 
+-- What a test answers: it accepts, or it refuses and says why.
+abbrev pub Verdict : Type 0
+Verdict = Result (Unit {0}) Refusal
+
 -- An accepted call gives number 0.
 abbrev pub verdict_number : Verdict → ℕ
-verdict_number Accepted = 0
-verdict_number (Refused r) = number_of r
+verdict_number (Ok _) = 0
+verdict_number (Err r) = number_of r
 
 -- `given b r next`: refusal r where b holds, and otherwise what comes next. The first that applies is given.
 unfoldable pub given : Bool → Refusal → Verdict → Verdict
-given true r next = Refused r
+given true r next = Err r
 given false r next = next

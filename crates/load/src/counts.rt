@@ -1,5 +1,5 @@
 // The three counts of a load.
-#[derive(Clone, Copy)]
+#[derive(Clone, Copy, Debug, PartialEq, Eq)]
 pub struct Counts {
     pub stages: usize,
     pub flows: usize,

@@ -1,57 +1,48 @@
-// Document 01's refusals by name, and what a test answers.
+// Document 01's refusals, each with its number, and the number of a verdict.
 ghost use Rattle.std.specs.Prelude.{◌≡◌};
-ghost use Rattle.load.specs.Refusals.{verdict_number};
+ghost use Rattle.load.specs.Refusals.{number_of, verdict_number};
 
-#[derive(Clone, Copy)]
+#[derive(Clone, Copy, Debug, PartialEq, Eq)]
 pub enum Refusal {
     // The file is empty, or its first byte isn't 1.
-    Version,
+    Version = 1,
     // The file is under 10 bytes, or its length word isn't the count of bytes after byte 4.
-    FileLength,
+    FileLength = 2,
     // The stage count isn't 1 to 4.
-    Stages,
+    Stages = 3,
     // Over 64 flows or over 1,024 blocks.
-    TooMany,
+    TooMany = 4,
     // A record's length byte is wrong, a record runs past the end, or bytes are left over.
-    Record,
+    Record = 5,
     // A name byte is outside 33 to 126.
-    NameByte,
+    NameByte = 6,
     // A lent table is too short.
-    ShortTable,
+    ShortTable = 7,
     // A block's flow number isn't below the flow count.
-    NoSuchFlow,
+    NoSuchFlow = 8,
     // An arrival or a time is above its limit, or a time is above 0 for a stage that the load lacks.
-    OverLimit,
+    OverLimit = 9,
     // All times of a block are 0.
-    AllZero,
+    AllZero = 10,
     // A block arrives before the one above it.
-    OutOfOrder,
+    OutOfOrder = 11,
 }
 
-#[derive(Clone, Copy)]
-pub enum Verdict {
-    Accepted,
-    Refused(Refusal),
+impl Refusal {
+    // Document 01's number for this refusal.
+    pub fn number(self) -> u64
+        ensures { result ≡ number_of self }
+    {
+        self as u64
+    }
 }
 
-// Document 01's number for a verdict.
-pub fn number(verdict: Verdict) -> u64
+// Document 01's number for a verdict: 0 where nothing is refused.
+pub fn number(verdict: Result<(), Refusal>) -> u64
     ensures { result ≡ verdict_number verdict }
 {
-    let Verdict::Refused(why) = verdict else {
-        return 0;
-    };
-    match why {
-        Refusal::Version => 1,
-        Refusal::FileLength => 2,
-        Refusal::Stages => 3,
-        Refusal::TooMany => 4,
-        Refusal::Record => 5,
-        Refusal::NameByte => 6,
-        Refusal::ShortTable => 7,
-        Refusal::NoSuchFlow => 8,
-        Refusal::OverLimit => 9,
-        Refusal::AllZero => 10,
-        Refusal::OutOfOrder => 11,
+    match verdict {
+        Ok(()) => 0,
+        Err(why) => why.number(),
     }
 }

@@ -8,16 +8,14 @@ use native.Mathlib.Omega.{arith}
 use lib.Dec.{ltb}
 use lib.ListN.{length, get_or, drop, length-take}
 use lib.Seq.{drop-nil, take-nil}
+use Rattle.std.specs.Prelude.{Ok, Err}
 use Rattle.load.specs.declared.block.Block.{Block}
 use Rattle.load.specs.declared.counts.Counts.{Counts}
-use Rattle.load.specs.declared.refusal.Verdict.TheVariants.{Accepted}
 use Rattle.load.specs.Blocks.{words_of}
 use Rattle.load.proofs.Cases.{given_accepted}
 use Rattle.limits.specs.Tests.{block_verdict, counts_verdict}
-use Rattle.records.specs.declared.record.Walk.{Walk}
-use Rattle.records.specs.declared.record.Walk.TheVariants.{At, Stopped}
 use Rattle.records.specs.Standing.{entry}
-use Rattle.records.specs.Records.{Parsed, refused, parsed, after, onto, block_measured, block_record, block_records, flow_records, measure, name_in}
+use Rattle.records.specs.Records.{Parsed, Walk, refused, parsed, after, onto, block_measured, block_record, block_records, flow_records, measure, name_in}
 use Rattle.records.specs.Parts.{Part, bytes_in, empty}
 use Rattle.records.proofs.Records.{flow_record_reads, measure_within, unless_passed}
 use Rattle.header.specs.Header.{counts_in, header_verdict}
@@ -36,28 +34,28 @@ record Steps {A B : Type 0} (p : Parsed A) (next : A → ℕ → Parsed B) (b : 
 
 after_reads : {A B : Type 0} (p : Parsed A) (next : A → ℕ → Parsed B) (b : B) (end : ℕ) → after p next ≡ parsed b end → Steps p next b end
 unfolding after
-after_reads (refused r) next b end e = let z : ◌≡◌ {A = ℕ} 0 1 = cc in absurd (omega arith)
+after_reads (refused r) next b end e = absurd (cc)
 after_reads (parsed a at) next b end e = record { value = a; at = at; first = refl; then = e }
 
 onto_reads : {A : Type 0} (a : A) (p : Parsed (List A)) (list : List A) (end : ℕ) → onto a p ≡ parsed list end → (rest : List A) × (p ≡ parsed rest end) × (list ≡ a ∷ rest)
 unfolding onto
-onto_reads a (refused r) list end e = let z : ◌≡◌ {A = ℕ} 0 1 = cc in absurd (omega arith)
+onto_reads a (refused r) list end e = absurd (cc)
 onto_reads a (parsed rest at) list end e = (rest, cc, cc)
 
 -- a block that is read passed its tests
-pub block_passed : (c : Counts) (above : ℕ) (rest : List ℕ) (b : Block) (size : ℕ) → block_record c above rest ≡ parsed b size → block_verdict c above b ≡ Accepted
+pub block_passed : (c : Counts) (above : ℕ) (rest : List ℕ) (b : Block) (size : ℕ) → block_record c above rest ≡ parsed b size → block_verdict c above b ≡ Ok tt
 unfolding block_record block_measured
 block_passed c above rest b size e = go (measure (6 + 4 * c.stages) (6 + 4 * c.stages) rest) e where
-  go : (w : Walk) → block_measured c above rest w ≡ parsed b size → block_verdict c above b ≡ Accepted
-  go (Stopped r) e = let z : ◌≡◌ {A = ℕ} 0 1 = cc in absurd (omega arith)
-  go (At next) e = let passed = unless_passed _ _ _ _ e in cc
+  go : (w : Walk) → block_measured c above rest w ≡ parsed b size → block_verdict c above b ≡ Ok tt
+  go (Err r) e = absurd (cc)
+  go (Ok next) e = let passed = unless_passed _ _ _ _ e in cc
 
 -- the first of the blocks that are read, and the others below it
 pub record BlocksRead (s : List ℕ) (c : Counts) (above k : ℕ) (blocks : List Block) (end : ℕ) : Type 0 where
   pub block : Block
   pub others : List Block
   pub at : ℕ
-  pub passed : block_verdict c above block ≡ Accepted
+  pub passed : block_verdict c above block ≡ Ok tt
   pub rest : block_records s c block.arrival k at ≡ parsed others end
   pub all : blocks ≡ block ∷ others
 
@@ -88,7 +86,7 @@ names_short s (suc k) at names end e flow =
     let within = measure_within 0 31 (drop at s) r.size (flow_record_reads (drop at s) r.size r.first) in
     rw r.all (both_short (name_in at r.size) r.others flow (omega arith) (names_short s k (at + r.size) r.others end r.rest))
 
-header_counts : (s : List ℕ) → header_verdict s ≡ Accepted → counts_verdict (counts_in s) ≡ Accepted
+header_counts : (s : List ℕ) → header_verdict s ≡ Ok tt → counts_verdict (counts_in s) ≡ Ok tt
 unfolding header_verdict
 header_counts s e = (given_accepted _ _ _ (given_accepted _ _ _ e).1).1
 
@@ -104,8 +102,8 @@ blocks_long s c above (suc k) at blocks end e =
 pub record Passed (file : List ℕ) (l : Contents) : Type 0 where
   pub from : ℕ
   pub end : ℕ
-  pub header : header_verdict file ≡ Accepted
-  pub good : counts_verdict l.counts ≡ Accepted
+  pub header : header_verdict file ≡ Ok tt
+  pub good : counts_verdict l.counts ≡ Ok tt
   pub counted : l.counts ≡ counts_in file
   pub flows : flow_records file l.counts.flows 10 ≡ parsed l.names from
   pub blocks : block_records file l.counts 0 l.counts.blocks from ≡ parsed l.blocks end
@@ -119,7 +117,7 @@ contents_passed file l at e =
     let named = after_reads (flow_records file (counts_in file).flows 10) _ _ _ lent.1 in
     let tabled = after_reads (block_records file (counts_in file) 0 (counts_in file).blocks named.at) _ _ _ named.then in
     made tested.0 named.value named.at named.first tabled.value tabled.at tabled.first (unless_passed _ _ _ _ tabled.then).1 where
-      made : header_verdict file ≡ Accepted → (names : List Part) (from : ℕ) → flow_records file (counts_in file).flows 10 ≡ parsed names from
+      made : header_verdict file ≡ Ok tt → (names : List Part) (from : ℕ) → flow_records file (counts_in file).flows 10 ≡ parsed names from
           → (blocks : List Block) (end : ℕ) → block_records file (counts_in file) 0 (counts_in file).blocks from ≡ parsed blocks end
           → parsed (held (counts_in file) names blocks) end ≡ parsed l at → Passed file l
       made h names from n blocks end b e =

@@ -5,23 +5,25 @@ use mathlib.Core.List.{List, ◌++◌}
 use mathlib.Core.Path.{◌≡◌, refl}
 use native.Mathlib.Omega.{arith}
 use lib.ListN.{drop}
+use Rattle.std.specs.Prelude.{Result}
+use Rattle.load.specs.declared.counts.Counts.{Counts}
+use Rattle.load.specs.declared.refusal.Refusal.{Refusal}
 use Rattle.load.specs.Refusals.{verdict_number}
 use Rattle.load.proofs.Numbers.{number_above}
 use Rattle.records.specs.Answers.{verdict_of}
 use Rattle.records.specs.Records.{Parsed, parsed, refused}
 use Rattle.body.specs.Body.{table_words}
-use Rattle.loadfile.specs.declared.Answer.{Answer}
 use Rattle.loadfile.specs.Calls.{answer_counts, answer_number, answer_of, reading, Reads, table_after}
 use Rattle.loadfile.specs.Layout.{Contents}
 
-pub record Accepts (file table : List ℕ) (answer : Answer) (tableThen : List ℕ) : Type 0 where
+pub record Accepts (file table : List ℕ) (answer : Result Counts Refusal) (tableThen : List ℕ) : Type 0 where
   pub load : Contents
   pub end : ℕ
   pub read : reading file table ≡ parsed load end
   pub counts : answer_counts answer ≡ load.counts
   pub leaves : tableThen ≡ table_words load.blocks ++ drop (6 * load.counts.blocks) table
 
-module _ (file table : List ℕ) (answer : Answer) (tableThen : List ℕ) (reads : Reads file table answer tableThen) where
+module _ (file table : List ℕ) (answer : Result Counts Refusal) (tableThen : List ℕ) (reads : Reads file table answer tableThen) where
   pub reader_number : answer_number answer ≡ verdict_number (verdict_of (reading file table))
   unfolding answer_of verdict_of
   reader_number = go (reading file table) reads.answers where

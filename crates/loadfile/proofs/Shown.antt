@@ -3,19 +3,16 @@
 use Prim.Native.Nat.{ℕ, ◌≤◌, ◌<◌}
 use mathlib.Core.List.{List}
 use mathlib.Core.Path.{◌≡◌, refl, ◌∙◌}
-use native.Mathlib.Omega.{arith}
 use borrow.Author.Tests.{lt-ltb, le-ltb}
 use denote.Ref.{Bor}
 use lib.ListN.{length}
+use Rattle.std.specs.Prelude.{Ok, Err}
 use Rattle.load.specs.declared.counts.Counts.{Counts}
 use Rattle.load.specs.declared.refusal.Refusal.{Refusal}
-use Rattle.load.specs.declared.refusal.Verdict.TheVariants.{Accepted, Refused}
-use Rattle.load.specs.declared.refusal.Verdict.{Verdict}
-use Rattle.records.specs.declared.record.Walk.TheVariants.{At, Stopped}
-use Rattle.records.specs.declared.record.Walk.{Walk}
 use Rattle.records.specs.Answers.{verdict_of}
 use Rattle.records.specs.Standing.{entry}
-use Rattle.records.specs.Records.{Parsed, refused, parsed, flow_records}
+use Rattle.load.specs.Refusals.{Verdict}
+use Rattle.records.specs.Records.{Parsed, Walk, refused, parsed, flow_records}
 use Rattle.records.specs.Parts.{empty, IsPart, Part}
 use Rattle.header.specs.Header.{counts_in, header_verdict}
 use Rattle.body.specs.Body.{body_walk, own_name_of}
@@ -26,23 +23,22 @@ use Rattle.loadfile.proofs.Body.{body_reads, body_refuses, held}
 use Rattle.loadfile.proofs.Files.{contents_records, contents_refused}
 
 -- a file that is not sound shows nothing
-pub shown_unsound : (file standing : List ℕ) (flow : ℕ) (r : Refusal) → soundness file ≡ Refused r → shown_part file standing flow ≡ of_standing empty
+pub shown_unsound : (file standing : List ℕ) (flow : ℕ) (r : Refusal) → soundness file ≡ Err r → shown_part file standing flow ≡ of_standing empty
 unfolding soundness verdict_of shown_part shown_of
 shown_unsound file standing flow r e = go (contents file) e where
-  go : (p : Parsed Contents) → verdict_of p ≡ Refused r → shown_of p standing flow ≡ of_standing empty
+  go : (p : Parsed Contents) → verdict_of p ≡ Err r → shown_of p standing flow ≡ of_standing empty
   go (refused q) e = refl
-  go (parsed l at) e = let z : ◌≡◌ {A = ℕ} 0 1 = cc in absurd (omega arith)
+  go (parsed l at) e = absurd (cc)
 
 -- a sound file has a good header
-pub sound_header : (file : List ℕ) → soundness file ≡ Accepted → header_verdict file ≡ Accepted
+pub sound_header : (file : List ℕ) → soundness file ≡ Ok tt → header_verdict file ≡ Ok tt
 unfolding soundness verdict_of
 sound_header file e = go (header_verdict file) refl where
-  go : (v : Verdict) → header_verdict file ≡ v → v ≡ Accepted
-  go Accepted h = refl
-  go (Refused r) h =
+  go : (v : Verdict) → header_verdict file ≡ v → v ≡ Ok tt
+  go (Ok tt) h = refl
+  go (Err r) h =
       let same : contents file ≡ refused r = contents_refused file r h in
-      let z : ◌≡◌ {A = ℕ} 0 1 = cc in
-      absurd (omega arith)
+      absurd (cc)
 
 -- what a sound file holds, and the walk over its flow records
 pub record Held (file : List ℕ) : Type 0 where
@@ -53,15 +49,14 @@ pub record Held (file : List ℕ) : Type 0 where
   pub counted : load.counts ≡ counts_in file
   pub named : flow_records file (counts_in file).flows 10 ≡ parsed load.names from
 
-pub sound_holds : (file : List ℕ) → soundness file ≡ Accepted → Held file
+pub sound_holds : (file : List ℕ) → soundness file ≡ Ok tt → Held file
 unfolding soundness verdict_of
 sound_holds file e = go (body_walk (counts_in file) file) refl (contents_records file (counts_in file) refl (sound_header file e)) where
   go : (w : Walk) → body_walk (counts_in file) file ≡ w → contents file ≡ records (counts_in file) file → Held file
-  go (Stopped r) m here =
+  go (Err r) m here =
       let same : contents file ≡ refused r = here ∙ body_refuses (counts_in file) file r m in
-      let z : ◌≡◌ {A = ℕ} 0 1 = cc in
-      absurd (omega arith)
-  go (At from) m here =
+      absurd (cc)
+  go (Ok from) m here =
       let sound = body_reads (counts_in file) file from m in
       record {
         load = held (counts_in file) sound.names sound.blocks;
@@ -72,7 +67,7 @@ sound_holds file e = go (body_walk (counts_in file) file) refl (contents_records
         named = sound.flows_read;
       }
 
-module _ (file standing : List ℕ) (flow : ℕ) (c : Counts) (same : c ≡ counts_in file) (sound : soundness file ≡ Accepted) where
+module _ (file standing : List ℕ) (flow : ℕ) (c : Counts) (same : c ≡ counts_in file) (sound : soundness file ≡ Ok tt) where
   pub shown_absent : c.flows ≤ flow → shown_part file standing flow ≡ of_standing empty
   unfolding shown_part shown_of
   shown_absent h =

@@ -1,16 +1,14 @@
 -- What the three public calls answer, for all arguments.
-use Rattle.std.specs.Prelude.{ℕ, ◌*◌, ◌≡◌, false, cond, List, ◌++◌, ltb, length, get_or, drop}
+use Rattle.std.specs.Prelude.{ℕ, ◌*◌, ◌≡◌, false, cond, List, ◌++◌, ltb, length, get_or, drop, Result, Ok, Err}
 use Rattle.std.specs.Borrow.{Bor}
 use Rattle.load.specs.declared.counts.Counts.{Counts}
-use Rattle.load.specs.declared.refusal.Verdict.{Verdict}
-use Rattle.load.specs.Refusals.{number_of}
+use Rattle.load.specs.declared.refusal.Refusal.{Refusal}
+use Rattle.load.specs.Refusals.{Verdict, number_of}
 use Rattle.records.specs.Answers.{verdict_of}
 use Rattle.records.specs.Parts.{Part, bytes_in, empty, place_in}
 use Rattle.records.specs.Records.{Parsed, refused, parsed}
 use Rattle.records.specs.Standing.{entry}
 use Rattle.body.specs.Body.{table_words}
-use Rattle.loadfile.specs.declared.Answer.{Answer}
-use Rattle.loadfile.specs.declared.Answer.TheVariants.{Refused, Read}
 use Rattle.loadfile.specs.Layout.{Contents, file_with}
 
 -- The soundness call omits 7.
@@ -25,24 +23,24 @@ unfoldable pub reading : List ℕ → List ℕ → Parsed Contents
 reading file table = file_with (λ c. ltb (length table) (6 * c.blocks)) file
 
 -- document 01's number and counts for each answer
-abbrev pub answer_number : Answer → ℕ
-answer_number (Refused r) = number_of r
-answer_number (Read c) = 0
+abbrev pub answer_number : Result Counts Refusal → ℕ
+answer_number (Err r) = number_of r
+answer_number (Ok c) = 0
 
-abbrev pub answer_counts : Answer → Counts
-answer_counts (Refused r) = record { stages = 0; flows = 0; blocks = 0 }
-answer_counts (Read c) = c
+abbrev pub answer_counts : Result Counts Refusal → Counts
+answer_counts (Err r) = record { stages = 0; flows = 0; blocks = 0 }
+answer_counts (Ok c) = c
 
-unfoldable pub answer_of : Parsed Contents → Answer
-answer_of (refused r) = Refused r
-answer_of (parsed l at) = Read l.counts
+unfoldable pub answer_of : Parsed Contents → Result Counts Refusal
+answer_of (refused r) = Err r
+answer_of (parsed l at) = Ok l.counts
 
 -- A refusal leaves the table as before, and room beyond need is left as found.
 unfoldable pub table_after : Parsed Contents → List ℕ → List ℕ
 table_after (refused r) table = table
 table_after (parsed l at) table = table_words l.blocks ++ drop (6 * l.counts.blocks) table
 
-pub record Reads (file table : List ℕ) (answer : Answer) (tableThen : List ℕ) : Type 0 where
+pub record Reads (file table : List ℕ) (answer : Result Counts Refusal) (tableThen : List ℕ) : Type 0 where
   pub answers : answer ≡ answer_of (reading file table)
   pub leaves : tableThen ≡ table_after (reading file table) table
 

@@ -7,64 +7,43 @@ ghost use Rattle.loadfile.specs.Calls.{Reads, Shows, soundness};
 
 use body::{table, walk};
 use load::counts::Counts;
-use load::refusal::{Refusal, Verdict};
-use records::record::Walk;
+use load::refusal::Refusal;
 use records::standing;
 
-// What the reader answers.
-#[derive(Clone, Copy)]
-pub enum Answer {
-    Refused(Refusal),
-    Read(Counts),
-}
-
 // The soundness call.
-pub fn sound(file: &[u8]) -> Verdict
+pub fn sound(file: &[u8]) -> Result<(), Refusal>
     ensures { result ≡ soundness file.now }
 {
-    let header = header::test(file);
-    let Verdict::Accepted = header else {
-        return header;
-    };
-    match walk::body(file, header::counts(file)) {
-        Walk::Stopped(why) => Verdict::Refused(why),
-        Walk::At(_) => Verdict::Accepted,
-    }
+    header::test(file)?;
+    walk::body(file, header::counts(file))?;
+    Ok(())
 }
 
 // The reader: tests everything, and only then writes the block table.
-pub fn read(file: &[u8], table: &mut [u32]) -> Answer
+pub fn read(file: &[u8], table: &mut [u32]) -> Result<Counts, Refusal>
     ensures { Reads file.now table.old result table.new }
 {
-    if let Verdict::Refused(why) = header::test(file) {
-        return Answer::Refused(why);
-    }
+    header::test(file)?;
     let counts = header::counts(file);
     if table.len() < 6 * counts.blocks {
-        return Answer::Refused(Refusal::ShortTable);
+        return Err(Refusal::ShortTable);
     }
-    match walk::body(file, counts) {
-        Walk::Stopped(why) => Answer::Refused(why),
-        Walk::At(from) => {
-            table::fill(file, counts, from, table);
-            Answer::Read(counts)
-        }
-    }
+    let from = walk::body(file, counts)?;
+    table::fill(file, counts, from, table);
+    Ok(counts)
 }
 
 // The name call: the part of the file or of the standing list that is shown for a flow.
 pub fn name<'a>(file: &'a [u8], standing: &'a [u8], flow: usize) -> &'a [u8]
     ensures { Shows file.entry standing.entry flow result }
 {
-    let Verdict::Accepted = sound(file) else {
-        return &standing[..0];
-    };
-    if header::counts(file).flows <= flow {
+    if sound(file).is_err() || header::counts(file).flows <= flow {
         return &standing[..0];
     }
     let own = walk::own_name(file, flow);
-    if 0 < own.len() {
-        return own;
+    if own.is_empty() {
+        standing::entry(standing, flow)
+    } else {
+        own
     }
-    standing::entry(standing, flow)
 }

@@ -12,8 +12,8 @@ use lib.ListN.{drop, get_or, length, length-set, replicate, set, take, take-appe
 use lib.Seq.{drop-drop, get_or-set_other, get_or-set_same}
 use Rattle.load.specs.declared.counts.Counts.{Counts}
 use Rattle.load.specs.declared.refusal.Refusal.{Refusal}
-use Rattle.load.specs.declared.refusal.Verdict.{Verdict}
-use Rattle.load.specs.declared.refusal.Verdict.TheVariants as verdict
+use Rattle.std.specs.Prelude.{Ok, Err}
+use Rattle.load.specs.Refusals.{Verdict}
 use Rattle.dominant.specs.Dominant.{dominant_time}
 use Rattle.load.proofs.Cases.{by_test, cases}
 use Rattle.load.proofs.Parts.{drop_over, length_over, over, take_over}
@@ -160,10 +160,10 @@ module _ (c : Counts) (n : ℕ) (table : List ℕ) (fs₀ : List FlowRecord) (ws
         let end : (last_run c.stages g.running.planner.core.way).finish ≡ 0 = ap (λ (x : State). (last_run c.stages x.core.way).finish) at ∙ no_end c.stages in
         rw (blocks, turns, rounds, b.held, b.ticks, end) refl
 
-    first_refused : (r : Refusal) → said ≡ verdict.Refused r → Goes m₀ g s₀ fs₀ ws₀
+    first_refused : (r : Refusal) → said ≡ Err r → Goes m₀ g s₀ fs₀ ws₀
     unfolding taken flows_after rows_after answer_of answered records run
     first_refused r e =
-        let is : g.verdict ≡ verdict.Refused r = b.verdict ∙ e in
+        let is : g.verdict ≡ Err r = b.verdict ∙ e in
         let no_flow : g.empties ≡ 0 = b.empties ∙ ap (λ (v : Verdict). (taken c v).flows) is in
         let no_block : (taken c g.verdict).blocks ≡ 0 = ap (λ (v : Verdict). (taken c v).blocks) is in
         let no_start : g.running.left ≡ 0 = omega (arith, b.left, no_block) in
@@ -171,10 +171,10 @@ module _ (c : Counts) (n : ℕ) (table : List ℕ) (fs₀ : List FlowRecord) (ws
         (rw (no_flow, no_start) (record { answers = rw e refl; flows_left = rw e refl; rows_left = rw e (written_none g.running.at ws₀) }))
         (λ h. absurd (omega (arith, no_flow, no_start)))
 
-    first_accepted : said ≡ verdict.Accepted → Goes m₀ g s₀ fs₀ ws₀
+    first_accepted : said ≡ Ok tt → Goes m₀ g s₀ fs₀ ws₀
     unfolding taken flows_after rows_after answer_of answered plan counts.none origin state
     first_accepted e =
-        let is : g.verdict ≡ verdict.Accepted = b.verdict ∙ e in
+        let is : g.verdict ≡ Ok tt = b.verdict ∙ e in
         let flows : g.empties ≡ c.flows = b.empties ∙ ap (λ (v : Verdict). (taken c v).flows) is in
         let left : g.running.left ≡ min n c.blocks = b.left ∙ ap (λ (v : Verdict). min n (taken c v).blocks) is in
         let state : s₀ ≡ origin L = b.state ∙ ap (λ (v : Verdict). origin (load_of (taken c v) table)) is in
@@ -207,19 +207,19 @@ module _ (c : Counts) (n : ℕ) (table : List ℕ) (fs₀ : List FlowRecord) (ws
     pub goes_first : Goes m₀ g s₀ fs₀ ws₀
     goes_first = go said refl where
       go : (v : Verdict) → said ≡ v → Goes m₀ g s₀ fs₀ ws₀
-      go (verdict.Refused r) e = first_refused r e
-      go verdict.Accepted e = first_accepted e
+      go (Err r) e = first_refused r e
+      go (Ok tt) e = first_accepted e
 
     -- after a refusal nothing is to be noted, so the planner need not stand for a state
     pub shows_first : 0 < m₀ → Shows L g list queues (replicate 64 0) s₀
     unfolding taken
     shows_first some = go g.verdict refl where
       go : (v : Verdict) → g.verdict ≡ v → Shows L g list queues (replicate 64 0) s₀
-      go (verdict.Refused r) e =
+      go (Err r) e =
           let no_flow : g.empties ≡ 0 = b.empties ∙ ap (λ (x : Verdict). (taken c x).flows) e in
           let no_block : (taken c g.verdict).blocks ≡ 0 = ap (λ (x : Verdict). (taken c x).blocks) e in
           absurd (omega (arith, some, no_flow, b.left, no_block))
-      go verdict.Accepted e = record { is = refl; follows = rw e at b.follows }
+      go (Ok tt) e = record { is = refl; follows = rw e at b.follows }
 
   -- ---- something is noted
   module _ (i : ℕ) (g : Going) (s : State) (fs : List FlowRecord) (ws : List ℕ) (p : Goes (suc i) g s fs ws) where

@@ -6,8 +6,9 @@ ghost use Rattle.rules.specs.Calls.{Plans};
 mod record;
 
 use load::counts::Counts;
+use load::refusal::Refusal;
 use progress::run;
-use rules::answer::Planned;
+use rules::answer::Summary;
 use rules::record::FlowRecord;
 
 // The first `limit` blocks of the plan, or all of them: their rows, the flows' records, and the counts. The loop decides nothing. It
@@ -18,7 +19,7 @@ pub fn plan(
     blocks: &[u32],
     flows: &mut [FlowRecord],
     rows: &mut [u64],
-) -> Planned
+) -> Result<Summary, Refusal>
     ensures { Plans counts limit blocks.now flows.old rows.old result flows.new rows.new }
 {
     let mut list = waiting::empty();

@@ -1,12 +1,10 @@
 -- A plan call from one start to the next, but for the flow table: where it is before the first start, what it asks and does at
 -- each thing that is to be noted, and what it answers.
-use Rattle.std.specs.Prelude.{ℕ, zero, suc, ◌+◌, ◌-◌, ◌*◌, ◌/◌, ◌≤◌, ◌<◌, min, Bool, List, ◌++◌, ◌≡◌, ltb, drop, replicate, take}
+use Rattle.std.specs.Prelude.{ℕ, zero, suc, ◌+◌, ◌-◌, ◌*◌, ◌/◌, ◌≤◌, ◌<◌, min, Bool, List, ◌++◌, ◌≡◌, ltb, drop, replicate, take, Result, Ok, Err}
 use Rattle.std.proofs.Math.Option.{some}
 use Rattle.load.specs.declared.counts.Counts.{Counts}
-use Rattle.load.specs.declared.refusal.Verdict.{Verdict}
-use Rattle.load.specs.declared.refusal.Verdict.TheVariants as verdict
-use Rattle.rules.specs.declared.answer.Planned.{Planned}
-use Rattle.rules.specs.declared.answer.Planned.TheVariants.{Refused, Plan}
+use Rattle.load.specs.declared.refusal.Refusal.{Refusal}
+use Rattle.load.specs.Refusals.{Verdict}
 use Rattle.rules.specs.declared.answer.Summary.{Summary}
 use Rattle.rules.specs.declared.mode.Mode.TheVariants.{Idle}
 use Rattle.rules.specs.Calls.{plan_verdict}
@@ -53,8 +51,8 @@ more g = ltb 0 (g.empties + g.running.left)
 
 -- The counts of the load that is planned: after a refusal, of one with no flow and no block.
 unfoldable pub taken : Counts → Verdict → Counts
-taken c verdict.Accepted = c
-taken c (verdict.Refused r) = record { stages = 1; flows = 0; blocks = 0 }
+taken c (Ok tt) = c
+taken c (Err r) = record { stages = 1; flows = 0; blocks = 0 }
 
 -- the records of so many flows are to be emptied, and then the starts are made
 pub record Emptying (v : Verdict) (flows : ℕ) (r : Running) (g : Going) : Type 0 where
@@ -133,6 +131,6 @@ module _ (L : Load) (g : Going) (s : State) (rows : List ℕ) (gThen : Going) (s
     pub go : gThen.go ≡ more gThen
 
 -- the answer
-unfoldable pub answered : Verdict → Summary → Planned
-answered (verdict.Refused r) s = Refused r
-answered verdict.Accepted s = Plan s
+unfoldable pub answered : Verdict → Summary → Result Summary Refusal
+answered (Err r) s = Err r
+answered (Ok tt) s = Ok s

@@ -11,10 +11,10 @@ use crate::change;
 use crate::change::Change;
 use arrivals::state::Planner;
 use load::counts::Counts;
-use load::refusal::Verdict;
+use load::refusal::Refusal;
 use queues::Storage as Queues;
 use rows::{row, stages};
-use rules::answer::{Planned, Summary};
+use rules::answer::Summary;
 use rules::mode::Mode;
 use start::step::Next;
 use start::{origin, step};
@@ -36,23 +36,24 @@ pub struct Running {
 pub struct Going {
     pub go: bool,
     pub change: Change,
-    pub verdict: Verdict,
+    pub verdict: Result<(), Refusal>,
     pub empties: usize,
     pub running: Running,
 }
 
 // The counts of the load that is planned: after a refusal, of one with no flow and no block.
-fn taken(counts: Counts, verdict: Verdict) -> Counts
+#[tactic(auto, unfolding(crate::specs::Going::taken))]
+fn taken(counts: Counts, verdict: Result<(), Refusal>) -> Counts
     ensures { result ≡ Going·taken counts verdict }
 {
-    let Verdict::Accepted = verdict else {
-        return Counts {
+    match verdict {
+        Ok(()) => counts,
+        Err(_) => Counts {
             stages: 1,
             flows: 0,
             blocks: 0,
-        };
-    };
-    counts
+        },
+    }
 }
 
 // With no row listed yet.
@@ -71,7 +72,7 @@ fn unlisted(planner: Planner, left: usize) -> Running
 // Before the first start, when the records of so many flows are to be emptied yet. The planner is idle then, and is said to be: one
 // that were handed on as it is would have the bytes between its fields copied at each start, and a plan would take 1.2 times as
 // long.
-fn emptying(verdict: Verdict, flows: usize, running: Running) -> Going
+fn emptying(verdict: Result<(), Refusal>, flows: usize, running: Running) -> Going
     requires { (flows ≤ 64) × (running.left ≤ 1024) }
     ensures { Emptying verdict flows running result }
 {
@@ -144,7 +145,7 @@ fn start(
     let Next::Start(row, time, then) = step::step(counts, blocks, planner, list, queues, gate)
     else {
         // This is never reached: there is a start for each one that is left.
-        return emptying(Verdict::Accepted, 0, unlisted(planner, 0));
+        return emptying(Ok(()), 0, unlisted(planner, 0));
     };
     let at = running.at;
     row::write(&mut rows[at..], row);
@@ -204,13 +205,10 @@ fn summary(stages: usize, running: Running) -> Summary
 }
 
 // What the call answers.
-pub fn answer(counts: Counts, going: Going) -> Planned
+#[tactic(auto, unfolding(crate::specs::Going::answered))]
+pub fn answer(counts: Counts, going: Going) -> Result<Summary, Refusal>
     ensures { result ≡ answered going.verdict (summary_of counts.stages going.running) }
 {
-    let verdict = going.verdict;
-    if let Verdict::Refused(refusal) = verdict {
-        return Planned::Refused(refusal);
-    }
-    let running = going.running;
-    Planned::Plan(summary(counts.stages, running))
+    going.verdict?;
+    Ok(summary(counts.stages, going.running))
 }

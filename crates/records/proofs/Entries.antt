@@ -30,3 +30,5 @@ module _ (list : List ℕ) (at : ℕ) where
   unfolding entry_from
   entry_here zero h s = rw (lt-ltb (at + get_or list at 0) (length list) (omega arith))
   entry_here (suc k) h s = absurd (omega arith)
+
+pub ruleset passing = (entry_ended, entry_next, entry_short, entry_here)

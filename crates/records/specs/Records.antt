@@ -1,16 +1,17 @@
 -- The records of a load file: what the bytes of one say, and so many of them one after the other. The file around them is in
 -- `crates/loadfile/specs/Layout.antt`.
-use Rattle.std.specs.Prelude.{ℕ, zero, suc, ◌+◌, ◌*◌, ◌-◌, Bool, true, false, cond, not, ◌&&◌, ◌||◌, List, [], ◌∷◌, leb, ltb, length, get_or, drop}
+use Rattle.std.specs.Prelude.{ℕ, zero, suc, ◌+◌, ◌*◌, ◌-◌, Bool, true, false, cond, not, ◌&&◌, ◌||◌, List, [], ◌∷◌, leb, ltb, length, get_or, drop, Result, Ok, Err}
 use Rattle.load.specs.declared.block.Block.{Block}
 use Rattle.load.specs.declared.counts.Counts.{Counts}
 use Rattle.load.specs.declared.refusal.Refusal.{Refusal}
 use Rattle.load.specs.declared.refusal.Refusal.TheVariants.{Record, NameByte}
-use Rattle.load.specs.declared.refusal.Verdict.{Verdict}
-use Rattle.load.specs.declared.refusal.Verdict.TheVariants.{Accepted, Refused}
+use Rattle.load.specs.Refusals.{Verdict}
 use Rattle.limits.specs.Tests.{block_verdict}
-use Rattle.records.specs.declared.record.Walk.{Walk}
-use Rattle.records.specs.declared.record.Walk.TheVariants.{At, Stopped}
 use Rattle.records.specs.Parts.{Part, bytes_in}
+
+-- The byte after what was read, or the refusal at which reading stopped.
+abbrev pub Walk : Type 0
+Walk = Result ℕ Refusal
 
 -- What was read and the byte after it, or the first refusal.
 pub data Parsed (A : Type 0) : Type 0 where
@@ -26,8 +27,8 @@ module _ {A B : Type 0} where
 module _ {A : Type 0} where
   -- go on past a record of so many bytes
   unfoldable pub past : Walk → (ℕ → Parsed A) → Parsed A
-  past (Stopped r) next = refused r
-  past (At size) next = next size
+  past (Err r) next = refused r
+  past (Ok size) next = next size
 
   unfoldable pub onto : A → Parsed (List A) → Parsed (List A)
   onto a (refused r) = refused r
@@ -35,8 +36,8 @@ module _ {A : Type 0} where
 
   -- what was read, unless a test refuses it
   unfoldable pub unless : Verdict → Parsed A → Parsed A
-  unless Accepted p = p
-  unless (Refused r) p = refused r
+  unless (Ok _) p = p
+  unless (Err r) p = refused r
 
 -- Big-endian.
 unfoldable pub two_bytes : List ℕ → ℕ → ℕ
@@ -47,7 +48,7 @@ four_bytes s i = 65536 * two_bytes s i + two_bytes s (i + 2)
 
 -- The byte after a record that starts here: a length byte from least to most, and so many bytes after it.
 unfoldable pub stop_if : Bool → Refusal → Walk → Walk
-stop_if true r next = Stopped r
+stop_if true r next = Err r
 stop_if false r next = next
 
 unfoldable pub measure : ℕ → ℕ → List ℕ → Walk
@@ -56,7 +57,7 @@ measure least most rest =
     stop_if (ltb (length rest) 1) Record
     (stop_if (ltb n least || ltb most n) Record
     (stop_if (leb (length rest) n) Record
-    (At (1 + n))))
+    (Ok (1 + n))))
 
 -- A record for each flow: a length byte 0 to 31 and so many name bytes, each 33 to 126.
 unfoldable pub name_bytes : List ℕ → Bool
@@ -68,8 +69,8 @@ unfoldable pub name_in : ℕ → ℕ → Part
 name_in at size = record { from = at + 1; size = size - 1 }
 
 unfoldable pub flow_measured : List ℕ → Walk → Walk
-flow_measured rest (Stopped r) = Stopped r
-flow_measured rest (At size) = stop_if (not (name_bytes (bytes_in rest (name_in 0 size)))) NameByte (At size)
+flow_measured rest (Err r) = Err r
+flow_measured rest (Ok size) = stop_if (not (name_bytes (bytes_in rest (name_in 0 size)))) NameByte (Ok size)
 
 unfoldable pub flow_record : List ℕ → Walk
 flow_record rest = flow_measured rest (measure 0 31 rest)
@@ -96,8 +97,8 @@ block_in stages rest = record {
 
 -- a block record below a block that arrives at `above` (0 for the first)
 unfoldable pub block_measured : Counts → ℕ → List ℕ → Walk → Parsed Block
-block_measured c above rest (Stopped r) = refused r
-block_measured c above rest (At next) =
+block_measured c above rest (Err r) = refused r
+block_measured c above rest (Ok next) =
     unless (block_verdict c above (block_in c.stages rest)) (parsed (block_in c.stages rest) next)
 
 unfoldable pub block_record : Counts → ℕ → List ℕ → Parsed Block

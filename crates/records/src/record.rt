@@ -7,84 +7,54 @@ ghost use Rattle.records.specs.Answers.{block_found};
 use crate::bytes::{four, two};
 use load::block::Block;
 use load::counts::Counts;
-use load::refusal::{Refusal, Verdict};
-
-// The byte after what was read, or the refusal at which reading stopped.
-#[derive(Clone, Copy)]
-pub enum Walk {
-    At(usize),
-    Stopped(Refusal),
-}
-
-#[derive(Clone, Copy)]
-pub enum Found {
-    Holds(Block),
-    Stopped(Refusal),
-}
+use load::refusal::Refusal;
 
 // The byte after the record, whose length byte must be from least to most.
-pub fn measure(rest: &[u8], least: usize, most: usize) -> Walk
+#[tactic(auto, using(load::proofs::Cases::by_tests), unfolding(crate::specs::Records::measure, crate::specs::Records::stop_if))]
+pub fn measure(rest: &[u8], least: usize, most: usize) -> Result<usize, Refusal>
     ensures { result ≡ Layout·measure least most rest.now }
 {
-    if rest.len() < 1 {
-        return Walk::Stopped(Refusal::Record);
+    let size = usize::from(*rest.first().ok_or(Refusal::Record)?);
+    if !(least..=most).contains(&size) || rest.len() <= size {
+        return Err(Refusal::Record);
     }
-    let n = rest[0] as usize;
-    if n < least {
-        return Walk::Stopped(Refusal::Record);
-    }
-    if most < n {
-        return Walk::Stopped(Refusal::Record);
-    }
-    if rest.len() <= n {
-        return Walk::Stopped(Refusal::Record);
-    }
-    Walk::At(1 + n)
+    Ok(1 + size)
 }
 
 // Whether each byte is from 33 to 126.
 fn printable(name: &[u8]) -> bool
     ensures { result ≡ name_bytes name.now }
 {
-    let mut i = 0;
-    while i < name.len() {
-        if name[i] < 33 {
-            return false;
-        }
-        if 126 < name[i] {
-            return false;
-        }
-        i += 1;
-    }
-    true
+    name.iter().all(|byte| (33..=126).contains(byte))
 }
 
 // A flow's record: 5, then 6.
-pub fn flow(rest: &[u8]) -> Walk
+#[tactic(auto, using(crate::proofs::Records::measure_within), unfolding(crate::specs::Records::flow_record, crate::specs::Records::flow_measured, crate::specs::Records::stop_if, crate::specs::Records::name_in, crate::specs::Parts::bytes_in))]
+pub fn flow(rest: &[u8]) -> Result<usize, Refusal>
     ensures { result ≡ flow_record rest.now }
 {
-    let measured = measure(rest, 0, 31);
-    let Walk::At(next) = measured else {
-        return measured;
-    };
+    let next = measure(rest, 0, 31)?;
     if printable(&rest[1..next]) {
-        measured
+        Ok(next)
     } else {
-        Walk::Stopped(Refusal::NameByte)
+        Err(Refusal::NameByte)
     }
 }
 
+#[tactic(auto, using(load::proofs::Cases::by_tests), unfolding(crate::specs::Records::time_in))]
 fn time(rest: &[u8], stages: usize, stage: usize) -> u32
     requires { (7 + 4 * stages ≤ length rest.now) × (1 ≤ stage) × (stage ≤ 4) }
     ensures { result ≡ time_in stages stage rest.now }
 {
     if stages < stage {
-        return 0;
+        0
+    } else {
+        four(rest, 3 + 4 * stage)
     }
-    four(rest, 3 + 4 * stage)
 }
 
 // The block in a record that is whole.
+#[tactic(auto, unfolding(crate::specs::Records::block_in))]
 pub fn fields(rest: &[u8], stages: usize) -> Block
     requires { 7 + 4 * stages ≤ length rest.now }
     ensures { result ≡ block_in stages rest.now }
@@ -100,17 +70,14 @@ pub fn fields(rest: &[u8], stages: usize) -> Block
 }
 
 // A block's record below a block that arrives at `above` (0 for the first): 5, then 8 to 11.
-pub fn block(rest: &[u8], counts: Counts, above: u32) -> Found
+#[tactic(auto, using(crate::proofs::Records::measure_within), unfolding(crate::specs::Records::block_record, crate::specs::Records::block_measured, crate::specs::Records::unless, crate::specs::Answers::block_found))]
+pub fn block(rest: &[u8], counts: Counts, above: u32) -> Result<Block, Refusal>
     requires { counts.stages ≤ 4 }
     ensures { result ≡ block_found (block_record counts above rest.now) }
 {
     let size = 6 + 4 * counts.stages;
-    if let Walk::Stopped(why) = measure(rest, size, size) {
-        return Found::Stopped(why);
-    }
+    measure(rest, size, size)?;
     let block = fields(rest, counts.stages);
-    match limits::block::test(counts, above, block) {
-        Verdict::Refused(why) => Found::Stopped(why),
-        Verdict::Accepted => Found::Holds(block),
-    }
+    limits::block::test(counts, above, block)?;
+    Ok(block)
 }

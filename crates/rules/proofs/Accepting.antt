@@ -1,19 +1,19 @@
 -- Laws of acceptance: the tests block by block, as a loop makes them, and what an accepted plan call says of its load.
 use Prim.Native.Nat.{ℕ, zero, suc, ◌+◌, ◌-◌, ◌*◌, ◌≤◌, ◌<◌, min}
 use mathlib.Core.Bool.{false}
-use mathlib.Core.List.{List}
+use mathlib.Core.List.{List, ◌++◌}
 use mathlib.Core.Path.{◌≡◌, refl}
-use native.Mathlib.Numerals.{sub-one}
 use native.Mathlib.Omega.{arith}
 use borrow.Author.Tests.{eqb-false, eqb-true, ltb-false}
 use lib.Dec.{eqb}
 use lib.ListN.{drop, length}
-use lib.Seq.{drop-drop}
+use lib.Seq.{drop_at, drop-drop}
 use Rattle.load.specs.declared.block.Block.{Block}
 use Rattle.load.specs.declared.counts.Counts.{Counts}
 use Rattle.load.specs.declared.refusal.Refusal.{Refusal}
-use Rattle.load.specs.declared.refusal.Verdict.TheVariants as verdict
-use Rattle.load.specs.declared.refusal.Verdict.{Verdict}
+use Rattle.std.specs.Prelude.{Ok, Err}
+use Rattle.std.proofs.lemmas.List.{get_or_append_left}
+use Rattle.load.specs.Refusals.{Verdict}
 use Rattle.load.specs.Blocks.{block_of}
 use Rattle.load.proofs.Cases.{cases, given_accepted, or_false}
 use Rattle.dominant.specs.Dominant.{dominant_stage}
@@ -24,28 +24,34 @@ use Rattle.rules.specs.Calls.{and_then, blocks_verdict, plan_verdict, short}
 use Rattle.rules.specs.Load.{block_at, load_of}
 use Rattle.rules.specs.Within.{Accepted}
 
-module _ (c : Counts) (above : ℕ) (t : List ℕ) where
+-- a block's words are the first six of a table
+block_of-append : (w more : List ℕ) → length w ≡ 6 → block_of (w ++ more) ≡ block_of w
+unfolding block_of
+block_of-append w more six =
+    let e = get_or_append_left w more 0 in
+    simp (e 0 (omega arith), e 1 (omega arith), e 2 (omega arith), e 3 (omega arith), e 4 (omega arith), e 5 (omega arith))
+
+module _ (c : Counts) (above : ℕ) where
   -- no block left, or one
-  pub blocks_end : (left : ℕ) → left ≤ 0 → blocks_verdict c above left t ≡ verdict.Accepted
+  pub blocks_end : (left : ℕ) (t : List ℕ) → left ≤ 0 → blocks_verdict c above left t ≡ Ok tt
   unfolding blocks_verdict
-  blocks_end zero h = refl
-  blocks_end (suc k) h = absurd (omega arith)
+  blocks_end zero t h = refl
+  blocks_end (suc k) t h = absurd (omega arith)
 
-  blocks_step : (left : ℕ) → 0 < left → blocks_verdict c above left t ≡ and_then (block_verdict c above (block_of t)) (blocks_verdict c (block_of t).arrival (left - 1) (drop 6 t))
-  unfolding blocks_verdict
-  blocks_step zero h = absurd (omega arith)
-  blocks_step (suc k) h = rw sub-one
+  module _ (w more : List ℕ) (b : Block) (six : length w ≡ 6) (same : b ≡ block_of w) where
+    blocks_step : (left then : ℕ) → then + 1 ≡ left → blocks_verdict c above left (w ++ more) ≡ and_then (block_verdict c above b) (blocks_verdict c b.arrival then more)
+    unfolding blocks_verdict
+    blocks_step zero then h = absurd (omega arith)
+    blocks_step (suc k) then h = let one : k ≡ then = omega arith in rw (one, block_of-append w more six, drop_at w more 6 six, same) refl
 
-  pub blocks_refused : (left : ℕ) (b : Block) (r : Refusal) → 0 < left → b ≡ block_of t → block_verdict c above b ≡ verdict.Refused r
-      → blocks_verdict c above left t ≡ verdict.Refused r
-  unfolding and_then
-  blocks_refused left b r h same e = rw (blocks_step left h, ← same, e)
+    pub blocks_refused : (left then : ℕ) (r : Refusal) → then + 1 ≡ left → block_verdict c above b ≡ Err r → blocks_verdict c above left (w ++ more) ≡ Err r
+    unfolding and_then
+    blocks_refused left then r h e = rw (blocks_step left then h, e) refl
 
--- a block accepted: the walk goes on six words further
-pub blocks_next : (c : Counts) (above : ℕ) (table : List ℕ) (at left : ℕ) (b : Block) → 0 < left → b ≡ block_of (drop at table) → block_verdict c above b ≡ verdict.Accepted
-    → blocks_verdict c above left (drop at table) ≡ blocks_verdict c b.arrival (left - 1) (drop (at + 6) table)
-unfolding and_then
-blocks_next c above table at left b h same e = rw (blocks_step c above (drop at table) left h, ← same, e, drop-drop)
+    -- a block accepted: the walk goes on behind its six words
+    pub blocks_next : (left then : ℕ) → then + 1 ≡ left → block_verdict c above b ≡ Ok tt → blocks_verdict c above left (w ++ more) ≡ blocks_verdict c b.arrival then more
+    unfolding and_then
+    blocks_next left then h e = rw (blocks_step left then h, e) refl
 
 -- what a call that passes test 7 is lent
 pub record Lent (c : Counts) (n blockWords flow_records row_words : ℕ) : Type 0 where
@@ -64,19 +70,19 @@ lent c n blockWords flow_records row_words e =
       rows = ltb-false row_words (15 * min n c.blocks) rows.1;
     }
 
-and_then_accepted : (v next : Verdict) → and_then v next ≡ verdict.Accepted → (v ≡ verdict.Accepted) × (next ≡ verdict.Accepted)
+and_then_accepted : (v next : Verdict) → and_then v next ≡ Ok tt → (v ≡ Ok tt) × (next ≡ Ok tt)
 unfolding and_then
-and_then_accepted verdict.Accepted next e = (refl, e)
-and_then_accepted (verdict.Refused r) next e = let z : ◌≡◌ {A = ℕ} 0 1 = cc in absurd (omega arith)
+and_then_accepted (Ok tt) next e = (refl, e)
+and_then_accepted (Err r) next e = let z : ◌≡◌ {A = ℕ} 0 1 = cc in absurd (omega arith)
 
 -- when the block above a place arrives (0 for the first)
 abbrev above_at : List ℕ → ℕ → ℕ
 above_at table zero = 0
 above_at table (suc i) = (block_at table i).arrival
 
-module _ (c : Counts) (table : List ℕ) (e : blocks_verdict c 0 c.blocks table ≡ verdict.Accepted) where
+module _ (c : Counts) (table : List ℕ) (e : blocks_verdict c 0 c.blocks table ≡ Ok tt) where
   -- where all blocks are accepted, so are those from a place on, and with them each block
-  rest_accepted : (i left : ℕ) → i + left ≡ c.blocks → blocks_verdict c (above_at table i) left (drop (6 * i) table) ≡ verdict.Accepted
+  rest_accepted : (i left : ℕ) → i + left ≡ c.blocks → blocks_verdict c (above_at table i) left (drop (6 * i) table) ≡ Ok tt
   unfolding blocks_verdict block_at
   rest_accepted zero left all = let same : left ≡ c.blocks = omega arith in rw same e
   rest_accepted (suc i) left all =
@@ -87,8 +93,8 @@ module _ (c : Counts) (table : List ℕ) (e : blocks_verdict c 0 c.blocks table 
   unfolding blocks_verdict block_at
   each_accepted i h = block_within_limits c _ _ (and_then_accepted _ _ (rest_accepted i (suc (c.blocks - i - 1)) (omega arith))).0
 
-module _ (c : Counts) (n : ℕ) (table : List ℕ) (flow_records row_words : ℕ) (e : plan_verdict c n table flow_records row_words ≡ verdict.Accepted) where
-  tests : (counts_verdict c ≡ verdict.Accepted) × (short c n (length table) flow_records row_words ≡ false) × (blocks_verdict c 0 c.blocks table ≡ verdict.Accepted)
+module _ (c : Counts) (n : ℕ) (table : List ℕ) (flow_records row_words : ℕ) (e : plan_verdict c n table flow_records row_words ≡ Ok tt) where
+  tests : (counts_verdict c ≡ Ok tt) × (short c n (length table) flow_records row_words ≡ false) × (blocks_verdict c 0 c.blocks table ≡ Ok tt)
   unfolding plan_verdict
   tests =
       let counts = and_then_accepted _ _ e in

@@ -10,10 +10,11 @@ use borrow.Author.Tests.{eqb-false, eqb-true}
 use lib.Dec.{eqb}
 use lib.ListN.{drop, length}
 use Rattle.load.specs.declared.counts.Counts.{Counts}
-use Rattle.load.specs.declared.refusal.Verdict.TheVariants as verdict
+use Rattle.std.specs.Prelude.{Ok, Result}
+use Rattle.load.specs.declared.refusal.Refusal.{Refusal}
 use Rattle.load.proofs.Cases.{cases}
 use Rattle.dominant.specs.Dominant.{dominant_time}
-use Rattle.rules.specs.declared.answer.Planned.{Planned}
+use Rattle.rules.specs.declared.answer.Summary.{Summary}
 use Rattle.rules.specs.declared.record.FlowRecord.{FlowRecord}
 use Rattle.rules.specs.declared.row.Row.{Row}
 use Rattle.rules.specs.Calls.{answer_number, Plans, plan_verdict}
@@ -38,7 +39,7 @@ largest_bound table (suc k) i h =
     (λ e. rw (eqb-true i k e) (omega arith))
     (λ e. omega (arith, largest_bound table k i (omega (arith, eqb-false i k e))))
 
-module _ (c : Counts) (n : ℕ) (table : List ℕ) (flow_records row_words : ℕ) (e : plan_verdict c n table flow_records row_words ≡ verdict.Accepted) where
+module _ (c : Counts) (n : ℕ) (table : List ℕ) (flow_records row_words : ℕ) (e : plan_verdict c n table flow_records row_words ≡ Ok tt) where
   abbrev L : Load
   L = load_of c table
 
@@ -67,7 +68,7 @@ rows_back (r ∷ rs) zero more h = absurd (omega arith)
 rows_back (r ∷ rs) (suc k) more h = ap (λ (l : List Row). r ∷ l) (rows_back rs k more (omega arith))
 
 -- the words that the plan call leaves: the rows listed, and with a limit that covers all blocks each of them
-module _ (c : Counts) (n : ℕ) (table : List ℕ) (flows : List FlowRecord) (rows : List ℕ) (answer : Planned) (flowsThen : List FlowRecord) (rowsThen : List ℕ)
+module _ (c : Counts) (n : ℕ) (table : List ℕ) (flows : List FlowRecord) (rows : List ℕ) (answer : Result Summary Refusal) (flowsThen : List FlowRecord) (rowsThen : List ℕ)
     (p : Plans c n table flows rows answer flowsThen rowsThen) (is-0 : answer_number answer ≡ 0) where
   lists : Lists c n table flows rows answer flowsThen rowsThen
   lists = plan_accepts c n table flows rows answer flowsThen rowsThen p is-0

@@ -10,7 +10,7 @@ use borrow.Author.Tests.{eqb-true}
 use lib.Dec.{eqb}
 use lib.ListN.{get_or}
 use Rattle.load.specs.declared.counts.Counts.{Counts}
-use Rattle.load.specs.declared.refusal.Verdict.TheVariants as verdict
+use Rattle.std.specs.Prelude.{Ok}
 use Rattle.load.proofs.Cases.{cases}
 use Rattle.dominant.proofs.DominantStage.{dominant_time_lem}
 use Rattle.rules.specs.declared.answer.Summary.{Summary}
@@ -85,7 +85,7 @@ module _ (L : Load) (M : ℕ) (ok : Sound L M) where
       let later = runs_by_end n (k + 1) q.then (counted L.counts.stages a q.row) (omega arith) next.good (omega (arith, made.ends)) in
       (omega (arith, before, made.ticks, later.0), (omega (arith, made.by_end, later.0), later.1)))
 
-module _ (c : Counts) (n : ℕ) (table : List ℕ) (flow_records row_words : ℕ) (e : plan_verdict c n table flow_records row_words ≡ verdict.Accepted) where
+module _ (c : Counts) (n : ℕ) (table : List ℕ) (flow_records row_words : ℕ) (e : plan_verdict c n table flow_records row_words ≡ Ok tt) where
   abbrev L : Load
   L = load_of c table
 

@@ -11,7 +11,7 @@ use lib.ListN.{get_or, length, length-set, set}
 use lib.Seq.{get_or-set_other, get_or-set_same}
 use Rattle.load.specs.declared.block.Block.{Block}
 use Rattle.load.specs.declared.counts.Counts.{Counts}
-use Rattle.load.specs.declared.refusal.Verdict.TheVariants as verdict
+use Rattle.std.specs.Prelude.{Ok}
 use Rattle.load.proofs.Cases.{cases}
 use Rattle.dominant.specs.Dominant.{dominant_stage, dominant_time}
 use Rattle.rules.specs.declared.stages.Way.{Way}
@@ -46,7 +46,7 @@ pub record Sound (L : Load) (M : ℕ) : Type 0 where
   pub stage : (i : ℕ) → i < L.counts.blocks → dominant_stage (block_at L.table i) ≤ L.counts.stages
   pub bound : (i : ℕ) → i < L.counts.blocks → dominant_time (block_at L.table i) ≤ M
 
-pub accepted_sound : (c : Counts) (n : ℕ) (table : List ℕ) (flow_records row_words : ℕ) → plan_verdict c n table flow_records row_words ≡ verdict.Accepted
+pub accepted_sound : (c : Counts) (n : ℕ) (table : List ℕ) (flow_records row_words : ℕ) → plan_verdict c n table flow_records row_words ≡ Ok tt
     → (M : ℕ) → ((i : ℕ) → i < c.blocks → dominant_time (block_at table i) ≤ M) → Sound (load_of c table) M
 accepted_sound c n table flow_records row_words e M bound = record {
   accepted = (accepted c n table flow_records row_words e).0;

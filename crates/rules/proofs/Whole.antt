@@ -10,7 +10,7 @@ use borrow.Author.Tests.{eq-eqb, eqb-true, ltb-false, ltb-true}
 use lib.Dec.{eqb, leb, ltb}
 use lib.ListN.{get_or, length, length-set, set}
 use Rattle.load.specs.declared.counts.Counts.{Counts}
-use Rattle.load.specs.declared.refusal.Verdict.TheVariants as verdict
+use Rattle.std.specs.Prelude.{Ok}
 use Rattle.load.proofs.Cases.{by_test, cases, either}
 use Rattle.rules.specs.declared.answer.Summary.{Summary}
 use Rattle.rules.specs.declared.entry.Entry.{Entry}
@@ -259,7 +259,7 @@ unfolding counted summary
 summary_blocks stages s [] = omega arith
 summary_blocks stages s (r ∷ rs) = omega (arith, summary_blocks stages (counted stages s r) rs)
 
-module _ (c : Counts) (n : ℕ) (table : List ℕ) (flow_records row_words : ℕ) (e : plan_verdict c n table flow_records row_words ≡ verdict.Accepted) where
+module _ (c : Counts) (n : ℕ) (table : List ℕ) (flow_records row_words : ℕ) (e : plan_verdict c n table flow_records row_words ≡ Ok tt) where
   pub plan_length : length (plan (load_of c table) n) ≡ min n c.blocks
   unfolding plan
   plan_length =

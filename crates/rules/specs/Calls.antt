@@ -1,14 +1,11 @@
 -- The plan call, for all arguments.
-use Rattle.std.specs.Prelude.{ℕ, zero, suc, ◌*◌, min, ◌≡◌, Bool, ◌||◌, List, ◌++◌, ltb, length, drop, replicate}
+use Rattle.std.specs.Prelude.{ℕ, zero, suc, ◌*◌, min, ◌≡◌, Bool, ◌||◌, List, ◌++◌, ltb, length, drop, replicate, Result, Ok, Err}
 use Rattle.load.specs.declared.counts.Counts.{Counts}
+use Rattle.load.specs.declared.refusal.Refusal.{Refusal}
 use Rattle.load.specs.declared.refusal.Refusal.TheVariants.{ShortTable}
-use Rattle.load.specs.declared.refusal.Verdict.{Verdict}
-use Rattle.load.specs.declared.refusal.Verdict.TheVariants as verdict
 use Rattle.load.specs.Blocks.{block_of}
-use Rattle.load.specs.Refusals.{given, number_of}
+use Rattle.load.specs.Refusals.{given, number_of, Verdict}
 use Rattle.limits.specs.Tests.{block_verdict, counts_verdict}
-use Rattle.rules.specs.declared.answer.Planned.{Planned}
-use Rattle.rules.specs.declared.answer.Planned.TheVariants.{Refused, Plan}
 use Rattle.rules.specs.declared.answer.Summary.{Summary}
 use Rattle.rules.specs.declared.record.FlowRecord.{FlowRecord}
 use Rattle.rules.specs.Counts.{none, records, summary, unlisted}
@@ -18,12 +15,12 @@ use Rattle.rules.specs.Rows.{rows_words}
 
 -- the first refusal, if there is one
 unfoldable pub and_then : Verdict → Verdict → Verdict
-and_then verdict.Accepted next = next
-and_then (verdict.Refused r) next = verdict.Refused r
+and_then (Ok tt) next = next
+and_then (Err r) next = Err r
 
 -- block by block, each below one that arrives at `above` (0 for the first)
 unfoldable pub blocks_verdict : Counts → ℕ → ℕ → List ℕ → Verdict
-blocks_verdict c above zero table = verdict.Accepted
+blocks_verdict c above zero table = Ok tt
 blocks_verdict c above (suc k) table =
     and_then (block_verdict c above (block_of table)) (blocks_verdict c (block_of table).arrival k (drop 6 table))
 
@@ -40,30 +37,30 @@ plan_verdict c n table flow_records row_words =
     (blocks_verdict c 0 c.blocks table))
 
 -- document 01's number and values for each answer
-abbrev pub answer_number : Planned → ℕ
-answer_number (Refused r) = number_of r
-answer_number (Plan s) = 0
+abbrev pub answer_number : Result Summary Refusal → ℕ
+answer_number (Err r) = number_of r
+answer_number (Ok s) = 0
 
-abbrev pub answer_summary : Planned → Summary
-answer_summary (Refused r) = none
-answer_summary (Plan s) = s
+abbrev pub answer_summary : Result Summary Refusal → Summary
+answer_summary (Err r) = none
+answer_summary (Ok s) = s
 
 module _ (c : Counts) (n : ℕ) (table : List ℕ) where
-  unfoldable pub answer_of : Verdict → Planned
-  answer_of (verdict.Refused r) = Refused r
-  answer_of verdict.Accepted = Plan (summary c.stages none (plan (load_of c table) n))
+  unfoldable pub answer_of : Verdict → Result Summary Refusal
+  answer_of (Err r) = Err r
+  answer_of (Ok tt) = Ok (summary c.stages none (plan (load_of c table) n))
 
   -- A refusal leaves every table as before; room beyond need is left as found.
   unfoldable pub flows_after : List FlowRecord → Verdict → List FlowRecord
-  flows_after flows (verdict.Refused r) = flows
-  flows_after flows verdict.Accepted = records table 0 (replicate c.flows unlisted ++ drop c.flows flows) (plan (load_of c table) n)
+  flows_after flows (Err r) = flows
+  flows_after flows (Ok tt) = records table 0 (replicate c.flows unlisted ++ drop c.flows flows) (plan (load_of c table) n)
 
   unfoldable pub rows_after : List ℕ → Verdict → List ℕ
-  rows_after rows (verdict.Refused r) = rows
-  rows_after rows verdict.Accepted = rows_words (plan (load_of c table) n) ++ drop (15 * length (plan (load_of c table) n)) rows
+  rows_after rows (Err r) = rows
+  rows_after rows (Ok tt) = rows_words (plan (load_of c table) n) ++ drop (15 * length (plan (load_of c table) n)) rows
 
 -- the answer and what the two lent tables hold after the call
-pub record Plans (c : Counts) (n : ℕ) (table : List ℕ) (flows : List FlowRecord) (rows : List ℕ) (answer : Planned) (flowsThen : List FlowRecord) (rowsThen : List ℕ) : Type 0 where
+pub record Plans (c : Counts) (n : ℕ) (table : List ℕ) (flows : List FlowRecord) (rows : List ℕ) (answer : Result Summary Refusal) (flowsThen : List FlowRecord) (rowsThen : List ℕ) : Type 0 where
   pub answers : answer ≡ answer_of c n table (plan_verdict c n table (length flows) (length rows))
   pub flows_left : flowsThen ≡ flows_after c n table flows (plan_verdict c n table (length flows) (length rows))
   pub rows_left : rowsThen ≡ rows_after c n table rows (plan_verdict c n table (length flows) (length rows))

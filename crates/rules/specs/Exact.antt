@@ -1,7 +1,6 @@
 -- How exact demand 3 is. It asks for ten times the largest stage time (`Fair`). The plan of every load that the plan call accepts keeps
 -- eight (`Alike`), and no smaller whole number would do: loads come within 5 ticks of it (`Attained`).
-use Rattle.std.specs.Prelude.{ℕ, ◌+◌, ◌*◌, List, ◌≡◌}
-use Rattle.load.specs.declared.refusal.Verdict.TheVariants as verdict
+use Rattle.std.specs.Prelude.{ℕ, ◌+◌, ◌*◌, List, ◌≡◌, Ok}
 use Rattle.rules.specs.declared.row.Row.{Row}
 use Rattle.rules.specs.Calls.{plan_verdict}
 use Rattle.rules.specs.Fairness.{largest_time, ServedAlike, service, WaitsFrom}
@@ -13,7 +12,7 @@ Alike L rs = ServedAlike 8 L rs
 
 -- The plan call accepts a load: with its number of blocks for the limit, a flow record for each flow, and 15 row words for each block.
 abbrev pub Accepts : Load → Type 0
-Accepts L = plan_verdict L.counts L.counts.blocks L.table L.counts.flows (15 * L.counts.blocks) ≡ verdict.Accepted
+Accepts L = plan_verdict L.counts L.counts.blocks L.table L.counts.flows (15 * L.counts.blocks) ≡ Ok tt
 
 -- the plan with that limit
 abbrev pub whole_plan : Load → List Row

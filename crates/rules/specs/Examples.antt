@@ -1,9 +1,9 @@
 -- The starred examples of document 01 (T-01 gives equal times to the later stage, which E9 and E11 show), loads of our own for what they
 -- do not catch, and refusals, as one table under one statement of the plan call.
-use Rattle.std.specs.Prelude.{ℕ, zero, suc, ◌+◌, ◌*◌, Bool, true, false, ◌&&◌, List, [], ◌∷◌, ◌++◌, eqb, length, replicate, take}
+use Rattle.std.specs.Prelude.{ℕ, zero, suc, ◌+◌, ◌*◌, Bool, true, false, ◌&&◌, List, [], ◌∷◌, ◌++◌, eqb, length, replicate, take, Result}
 use Rattle.load.specs.declared.counts.Counts.{Counts}
-use Rattle.load.specs.declared.refusal.Verdict.{Verdict}
-use Rattle.rules.specs.declared.answer.Planned.{Planned}
+use Rattle.load.specs.declared.refusal.Refusal.{Refusal}
+use Rattle.load.specs.Refusals.{Verdict}
 use Rattle.rules.specs.declared.answer.Summary.{Summary}
 use Rattle.rules.specs.declared.record.FlowRecord.{FlowRecord}
 use Rattle.rules.specs.Calls.{answer_number, answer_of, answer_summary, flows_after, plan_verdict, rows_after}
@@ -52,7 +52,7 @@ unfoldable pub gives : Load → ℕ → ℕ → ℕ → ℕ → List ℕ → Lis
 gives L limit flow_records row_words number counts recordsThen rowsThen =
     let c : Counts = L.counts in
     let v : Verdict = plan_verdict c limit L.table flow_records row_words in
-    let answer : Planned = answer_of c limit L.table v in
+    let answer : Result Summary Refusal = answer_of c limit L.table v in
     eqb (answer_number answer) number
     && same (count_words (answer_summary answer)) counts
     && same (record_words (flows_after c limit L.table (marked_records flow_records) v)) recordsThen

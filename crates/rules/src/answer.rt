@@ -1,8 +1,7 @@
-// The counts of a plan, and the answer of the plan call.
-use load::refusal::Refusal;
+// The counts of a plan.
 
 // What is counted of the rows: blocks listed, turns, rounds, turns held, held ticks in sum, and the end.
-#[derive(Clone, Copy)]
+#[derive(Clone, Copy, Debug, Default, PartialEq, Eq)]
 pub struct Summary {
     pub blocks: u64,
     pub turns: u64,
@@ -10,11 +9,4 @@ pub struct Summary {
     pub held: u64,
     pub ticks: u64,
     pub end: u64,
-}
-
-// What the plan call answers.
-#[derive(Clone, Copy)]
-pub enum Planned {
-    Refused(Refusal),
-    Plan(Summary),
 }

@@ -1,7 +1,7 @@
 // A row of the plan: 15 words of 64 bits.
 use crate::stages::Way;
 
-#[derive(Clone, Copy)]
+#[derive(Clone, Copy, Debug, PartialEq, Eq)]
 pub struct Row {
     pub block: u64,
     pub flow: u64,

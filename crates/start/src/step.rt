@@ -51,7 +51,7 @@ fn due_at(blocks: &[u32], place: usize) -> Due
     ensures { result ≡ due_of blocks.now place }
 {
     let at = 6 * place;
-    let block = load::block::at(&blocks[at..]);
+    let block = Block::at(&blocks[at..]);
     let peak = dominant::highest(block);
     Due {
         place,

@@ -6,8 +6,8 @@ use mathlib.Core.Path.{◌≡◌, refl, sym, ap, subst, ◌∙◌}
 use native.Mathlib.Omega.{arith}
 use lib.ListN.{replicate}
 use Rattle.load.specs.declared.counts.Counts.{Counts}
-use Rattle.load.specs.declared.refusal.Verdict.{Verdict}
-use Rattle.load.specs.declared.refusal.Verdict.TheVariants as verdict
+use Rattle.std.specs.Prelude.{Ok, Err}
+use Rattle.load.specs.Refusals.{Verdict}
 use Rattle.rules.specs.declared.mode.Mode.TheVariants.{Idle}
 use Rattle.rules.specs.Calls.{plan_verdict}
 use Rattle.rules.specs.Load.{load_of}
@@ -24,9 +24,9 @@ use Rattle.progress.proofs.run.first.Goals as goal
 taken_accepted : (c : Counts) (n : ℕ) (table : List ℕ) (flow_records row_words : ℕ) (v : Verdict) → v ≡ plan_verdict c n table flow_records row_words
     → (t : Counts) → t ≡ taken c v → Accepted (load_of t table)
 unfolding taken
-taken_accepted c n table flow_records row_words (verdict.Refused r) e t is =
+taken_accepted c n table flow_records row_words (Err r) e t is =
     rw is (record { stages = (omega arith, omega arith); flows = omega arith; blocks = omega arith; room = omega arith; each = λ i h. absurd (omega arith) })
-taken_accepted c n table flow_records row_words verdict.Accepted e t is = rw is (accepted c n table flow_records row_words (sym e)).0
+taken_accepted c n table flow_records row_words (Ok tt) e t is = rw is (accepted c n table flow_records row_words (sym e)).0
 
 -- what the call is before the first start, put together
 begins : (c : Counts) (n : ℕ) (table : List ℕ) (flow_records row_words : ℕ) (g : Going) (list queues : List ℕ) (v : Verdict) (t : Counts) (p : Planner) (left : ℕ)

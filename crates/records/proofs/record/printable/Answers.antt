@@ -1,20 +1,21 @@
--- `records::record::printable` meets its contract: the bytes from i on are name bytes exactly if all are.
-use borrow.Author.Rules.{rules}
-use lib.ListN.{drop_of_length-le}
-use Rattle.load.proofs.Cases.{by_tests}
+-- `records::record::printable` meets its contract: `all` goes over the bytes one at a time, as `name_bytes` does.
+use Prim.Native.Nat.{ℕ}
+use mathlib.Core.Bool.{Bool, ◌&&◌}
+use mathlib.Core.Path.{refl, ◌∙◌}
+use lib.Dec.{leb}
+use Rattle.std.specs.List.{list_all}
+use Rattle.std.proofs.Common.{rules, tests}
+use Rattle.std.proofs.lemmas.Iterator.{YieldsList-from_slice}
+use Rattle.std.proofs.lemmas.Iterator.Search.{all_from_yields_List}
+use Rattle.std.proofs.lemmas.List.Recursion.{same_from_clauses}
 use Rattle.records.specs.Records.{name_bytes}
-use Rattle.records.proofs.Records.{name_bytes_step}
 use Rattle.records.proofs.record.printable.Goals as goal
 
-pub returns-then-name-i-lt33 : goal.returns-then-name-i-lt33
-returns-then-name-i-lt33 c = search (by_tests, ← c.loop-i.invariant.1, name_bytes_step)
-
-pub returns-then-name-i-gt126 : goal.returns-then-name-i-gt126
-returns-then-name-i-gt126 c = search (by_tests, ← c.loop-i.invariant.1, name_bytes_step)
-
-pub loop-i-preserved : goal.loop-i-preserved
-loop-i-preserved c = (search rules, search (by_tests, ← c.loop-i.invariant.1, name_bytes_step))
+abbrev name_byte : ℕ → Bool
+name_byte b = leb 33 b && leb b 126
 
 pub returns : goal.returns
 unfolding name_bytes
-returns c = search (drop_of_length-le, ← c.loop-i.invariant.1)
+returns c =
+    all_from_yields_List name_byte _ _ _ c.all.ensures.ran (YieldsList-from_slice c.args.name.now cc) (λ x b q k. search (rules, tests))
+    ∙ same_from_clauses (list_all name_byte) name_bytes (λ b rest. name_byte b && rest) refl (λ _ _. refl) (λ _ _. refl) c.args.name.now
