@@ -8,7 +8,7 @@ ghost use Rattle.line.specs.Pages.{Put};
 ghost use Rattle.lines.specs.Lines.{counts_line, named_row, refused_line, row_lines, runs as Lines·runs, shown as Lines·shown, start_finish};
 
 use line::Page;
-use load::refusal::{Refusal, Verdict};
+use load::refusal::Refusal;
 use rules::answer::Summary;
 use rules::row::Row;
 use rules::stages::{Span, Way};
@@ -18,7 +18,7 @@ pub fn refused(page: &mut Page, why: Refusal)
     ensures { Put page.old (refused_line why) page.new }
 {
     page.text(b"refused");
-    page.spaced(load::refusal::number(Verdict::Refused(why)));
+    page.spaced(why.number());
     page.end();
 }
 
