@@ -28,7 +28,7 @@ pub asked_of : {c : Counts} {table rows rowsThen : List ℕ} {flows flowsThen : 
     → Asked c table rows answer rowsThen
 asked_of p long = record { answers = rw long at p.answers; rows_left = rw long at p.rows_left }
 
-module _ (c : Counts) (table rows : List ℕ) (answer : Result Summary Refusal) (rowsThen : List ℕ) (accepted : verdict c table rows ≡ Ok tt) (asked : Asked c table rows answer rowsThen) where
+module _ {c : Counts} {table rows : List ℕ} {answer : Result Summary Refusal} {rowsThen : List ℕ} (accepted : verdict c table rows ≡ Ok tt) (asked : Asked c table rows answer rowsThen) where
   abbrev rs : List Row
   rs = plan (load_of c table) 512
 
@@ -36,10 +36,10 @@ module _ (c : Counts) (table rows : List ℕ) (answer : Result Summary Refusal) 
   unfolding answer_of
   answer_is = asked.answers ∙ ap (answer_of c 512 table) accepted
 
-  pub not_refused : (r : Refusal) → answer ≡ Err r → ⊥
-  not_refused r e = let is = answer_is in cc
+  pub not_refused : {r : Refusal} → answer ≡ Err r → ⊥
+  not_refused e = let is = answer_is in cc
 
-  module _ (s : Summary) (e : answer ≡ Ok s) where
+  module _ {s : Summary} (e : answer ≡ Ok s) where
     counts_are : s ≡ summary c.stages none rs
     counts_are = let is = answer_is in cc
 

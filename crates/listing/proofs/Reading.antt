@@ -45,37 +45,37 @@ enough_room file l at e within row_words room long =
     let listed = le-ltb row_words (15 * min 512 l.counts.blocks) (omega arith) in
     tested ∙ rw (words, flows, listed) refl
 
-module _ (file table tableThen : List ℕ) (long : length table ≡ 6144) where
-  pub refused_listing : (r : Refusal) (answer : Result Counts Refusal) → Reads file table answer tableThen → answer ≡ Err r → listing file ≡ refused_line r
-  unfolding listing listing_of answer_of
-  refused_listing r answer reads e = go (contents file) (sym e ∙ reads.answers ∙ ap answer_of (all_room file table long)) where
-    go : (p : Parsed Contents) → Err r ≡ answer_of p → listing_of file p ≡ refused_line r
-    go (refused q) e = let same : r ≡ q = cc in rw same refl
-    go (parsed l at) e = absurd (cc)
+pub refused_listing : {file table tableThen : List ℕ} {answer : Result Counts Refusal} {r : Refusal} → length table ≡ 6144 → Reads file table answer tableThen → answer ≡ Err r → listing file ≡ refused_line r
+unfolding listing listing_of answer_of
+refused_listing {file} {table} {r = r} long reads e = go (contents file) (sym e ∙ reads.answers ∙ ap answer_of (all_room file table long)) where
+  go : (p : Parsed Contents) → Err r ≡ answer_of p → listing_of file p ≡ refused_line r
+  go (refused q) e = let same : r ≡ q = cc in rw same refl
+  go (parsed l at) e = absurd (cc)
 
-  -- what is known of a file that is read
-  pub record Ready (c : Counts) : Type 0 where
-    pub within : CountsWithin c
-    pub lines : listing file ≡ plan_lines file c (take (6 * c.blocks) tableThen)
-    pub room : 6 * c.blocks ≤ length tableThen
-    pub accepted : (row_words : ℕ) → row_words ≡ 7680 → plan_verdict c 512 (take (6 * c.blocks) tableThen) 64 row_words ≡ Ok tt
+-- what is known of a file that is read
+pub record Ready (file : List ℕ) (c : Counts) (tableThen : List ℕ) : Type 0 where
+  pub within : CountsWithin c
+  pub lines : listing file ≡ plan_lines file c (take (6 * c.blocks) tableThen)
+  pub room : 6 * c.blocks ≤ length tableThen
+  pub accepted : (row_words : ℕ) → row_words ≡ 7680 → plan_verdict c 512 (take (6 * c.blocks) tableThen) 64 row_words ≡ Ok tt
 
-  ready : (l : Contents) (at : ℕ) → contents file ≡ parsed l at → tableThen ≡ table_after (parsed l at) table → Ready l.counts
-  unfolding listing listing_of table_after
-  ready l at e t =
-      let p = contents_passed file l at e in
-      let within = counts_within l.counts p.good in
-      let front : take (6 * l.counts.blocks) tableThen ≡ table_words l.blocks = rw t (take_at (table_words l.blocks) _ _ p.long) in
-      record {
-        within = within;
-        lines = rw (e, front) refl;
-        room = rw t (simp length-append (omega (arith, p.long)));
-        accepted = λ row_words room. rw front (enough_room file l at e within row_words room p.long);
-      }
+ready : (file table tableThen : List ℕ) (l : Contents) (at : ℕ) → contents file ≡ parsed l at → tableThen ≡ table_after (parsed l at) table → Ready file l.counts tableThen
+unfolding listing listing_of table_after
+ready file table tableThen l at e t =
+    let p = contents_passed file l at e in
+    let within = counts_within l.counts p.good in
+    let front : take (6 * l.counts.blocks) tableThen ≡ table_words l.blocks = rw t (take_at (table_words l.blocks) _ _ p.long) in
+    record {
+      within = within;
+      lines = rw (e, front) refl;
+      room = rw t (simp length-append (omega (arith, p.long)));
+      accepted = λ row_words room. rw front (enough_room file l at e within row_words room p.long);
+    }
 
-  pub read_listing : (c : Counts) (answer : Result Counts Refusal) → Reads file table answer tableThen → answer ≡ Ok c → Ready c
-  unfolding answer_of
-  read_listing c answer reads e = go (contents file) refl (sym e ∙ reads.answers ∙ ap answer_of (all_room file table long)) (reads.leaves ∙ ap (λ (p : Parsed Contents). table_after p table) (all_room file table long)) where
-    go : (p : Parsed Contents) → contents file ≡ p → Ok c ≡ answer_of p → tableThen ≡ table_after p table → Ready c
-    go (refused q) h e t = absurd (cc)
-    go (parsed l at) h e t = let same : l.counts ≡ c = cc in rw (← same) (ready l at h t)
+pub read_listing : {file table tableThen : List ℕ} {answer : Result Counts Refusal} {c : Counts} → length table ≡ 6144 → Reads file table answer tableThen → answer ≡ Ok c → Ready file c tableThen
+unfolding answer_of
+read_listing {file} {table} {tableThen} {c = c} long reads e =
+    go (contents file) refl (sym e ∙ reads.answers ∙ ap answer_of (all_room file table long)) (reads.leaves ∙ ap (λ (p : Parsed Contents). table_after p table) (all_room file table long)) where
+      go : (p : Parsed Contents) → contents file ≡ p → Ok c ≡ answer_of p → tableThen ≡ table_after p table → Ready file c tableThen
+      go (refused q) h e t = absurd (cc)
+      go (parsed l at) h e t = let same : l.counts ≡ c = cc in rw (← same) (ready file table tableThen l at h t)

@@ -10,33 +10,33 @@ use Rattle.listing.proofs.plan.Goals as goal
 
 pub overflow_mul-words : goal.overflow_mul-words
 overflow_mul-words c =
-    let ready = read_listing _ _ _ refl _ _ c.read.ensures c.in_ok-counts.was in
+    let ready = read_listing refl c.read.ensures c.in_ok-counts.was in
     omega (arith, ready.within.blocks_within)
 
 pub slice_bounds-blocks-end : goal.slice_bounds-blocks-end
-slice_bounds-blocks-end c = (read_listing _ _ _ refl _ _ c.read.ensures c.in_ok-counts.was).room
+slice_bounds-blocks-end c = (read_listing refl c.read.ensures c.in_ok-counts.was).room
 
 pub slice_bounds-plan-end : goal.slice_bounds-plan-end
 slice_bounds-plan-end c =
-    sym (length-take-le _ _ (read_listing _ _ _ refl _ _ c.read.ensures c.in_ok-counts.was).room)
-
-pub rows-requires : goal.rows-requires
-rows-requires c =
-    let ready = read_listing _ _ _ refl _ _ c.read.ensures c.in_ok-counts.was in
-    let few = few_blocks _ _ _ _ _ (ready.accepted 7680 refl) (asked_of c.plan.ensures refl) _ c.in_ok-summary.was in
-    omega (arith, few)
+    sym (length-take-le _ _ (read_listing refl c.read.ensures c.in_ok-counts.was).room)
 
 pub returns-in_err-counts-clause-refused : goal.returns-in_err-counts-clause-refused
 returns-in_err-counts-clause-refused c =
     let err = err_from_is_err_and c.from_residual.result c.from_residual.ensures.1 in
-    rw (err.1, err.2) (refused_listing _ _ _ refl _ _ c.read.ensures c.in_err-counts.was, refl)
+    rw (err.1, err.2) (refused_listing refl c.read.ensures c.in_err-counts.was, refl)
 
 pub returns-in_err-summary-clause-refused : goal.returns-in_err-summary-clause-refused
 returns-in_err-summary-clause-refused c =
-    let ready = read_listing _ _ _ refl _ _ c.read.ensures c.in_ok-counts.was in
-    absurd (not_refused _ _ _ _ _ (ready.accepted 7680 refl) (asked_of c.plan.ensures refl) _ c.in_err-summary.was)
+    let ready = read_listing refl c.read.ensures c.in_ok-counts.was in
+    absurd (not_refused (ready.accepted 7680 refl) (asked_of c.plan.ensures refl) c.in_err-summary.was)
+
+pub rows-requires : goal.rows-requires
+rows-requires c =
+    let ready = read_listing refl c.read.ensures c.in_ok-counts.was in
+    let few = few_blocks (ready.accepted 7680 refl) (asked_of c.plan.ensures refl) c.in_ok-summary.was in
+    omega (arith, few)
 
 pub returns-clause-lines : goal.returns-clause-lines
 returns-clause-lines c =
-    let ready = read_listing _ _ _ refl _ _ c.read.ensures c.in_ok-counts.was in
-    rw ready.lines (plan_put _ _ _ _ _ (ready.accepted 7680 refl) (asked_of c.plan.ensures refl) _ c.in_ok-summary.was _ _ _ _ c.counts.ensures c.rows.ensures)
+    let ready = read_listing refl c.read.ensures c.in_ok-counts.was in
+    rw ready.lines (plan_put (ready.accepted 7680 refl) (asked_of c.plan.ensures refl) c.in_ok-summary.was _ _ _ _ c.counts.ensures c.rows.ensures)
