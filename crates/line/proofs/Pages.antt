@@ -40,6 +40,9 @@ put_next b xs i h = rw (put_both, take_more xs i 0 h) refl
 pub put_all : (b xs a : List ℕ) (i : ℕ) → length xs ≤ i → Put b (take i xs) a → Put b xs a
 put_all b xs a i h p = rw (take_all i xs h) at p
 
+-- what a walk asks for
+pub ruleset page_laws = (put_both, put_next, put_nothing)
+
 -- What is put on an empty page is all that the page has, where there is room for it.
 pub put_whole : (xs a : List ℕ) → Put [] xs a → length xs ≤ room → a ≡ xs
 unfolding page_with

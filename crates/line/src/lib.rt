@@ -55,7 +55,7 @@ impl Page {
         }
     }
 
-    #[tactic(auto, using(crate::proofs::Pages::put_next, crate::proofs::Pages::put_nothing))]
+    #[tactic(auto, using(crate::proofs::Pages::page_laws))]
     pub fn text(&mut self, bytes: &[u8])
         ensures { Put self.old bytes.now self.new }
     {
@@ -64,8 +64,8 @@ impl Page {
         }
     }
 
-    // The digits are put one by one: `write!` would make of each line a `fmt::Result` that is never an `Err`.
-    #[tactic(auto, using(crate::proofs::Pages::put_both, crate::proofs::Digits::decimal_small, crate::proofs::Digits::decimal_next))]
+    // Digits are put one by one, here and in hexadecimal: `write!` would make of each line a `fmt::Result` that is never an `Err`.
+    #[tactic(auto, using(crate::proofs::Pages::put_both, crate::proofs::Digits::decimal_laws))]
     pub fn decimal(&mut self, n: u64)
         ensures { Put self.old (decimal_of n) self.new }
     {
@@ -94,7 +94,7 @@ impl Page {
     }
 
     // The bytes in hexadecimal, or a dash where there are none.
-    #[tactic(auto, using(crate::proofs::Pages::put_both, crate::proofs::Pages::put_nothing, crate::proofs::Digits::hex_none, crate::proofs::Digits::hex_next, crate::proofs::Digits::hex_all), unfolding(crate::specs::Numerals::hex_digits))]
+    #[tactic(auto, using(crate::proofs::Pages::page_laws, crate::proofs::Digits::hex_laws), unfolding(crate::specs::Numerals::hex_digits))]
     pub fn hex(&mut self, bytes: &[u8])
         ensures { Put self.old (hex_of bytes.now) self.new }
     {
