@@ -1,116 +1,91 @@
 // A case after its head: its parts are read, its call is made, and its line is put on the page.
 use cases::head::{Call, Head};
-use cases::{input, table};
+use cases::input::read_full;
+use cases::{BadCase, table};
+use line::Page;
 use load::refusal::Verdict;
 use loadfile::Answer;
 use std::io::Read;
 
-fn sound(out: &mut line::Page, file: &[u8]) -> usize {
-    let at = line::text(out, 0, b"sound ");
-    line::decimal(out, at, load::refusal::number(loadfile::sound(file)))
+fn sound(out: &mut Page, file: &[u8]) {
+    out.text(b"sound");
+    out.spaced(load::refusal::number(loadfile::sound(file)));
 }
 
-fn put_answer(out: &mut line::Page, answer: Answer) -> usize {
+fn put_answer(out: &mut Page, answer: Answer) {
     match answer {
         Answer::Refused(why) => {
-            let at = line::text(out, 0, b"read ");
-            let at = line::decimal(out, at, load::refusal::number(Verdict::Refused(why)));
-            line::text(out, at, b" 0 0 0")
+            out.text(b"read ");
+            out.decimal(load::refusal::number(Verdict::Refused(why)));
+            out.text(b" 0 0 0")
         }
         Answer::Read(counts) => {
-            let at = line::text(out, 0, b"read 0");
-            let at = line::spaced(out, at, counts.stages as u64);
-            let at = line::spaced(out, at, counts.flows as u64);
-            line::spaced(out, at, counts.blocks as u64)
+            out.text(b"read 0");
+            out.spaced(counts.stages as u64);
+            out.spaced(counts.flows as u64);
+            out.spaced(counts.blocks as u64)
         }
     }
 }
 
-fn reader(out: &mut line::Page, file: &[u8], table: &mut [u32]) -> usize {
-    table::mark(table);
-    let answer = loadfile::read(file, table);
-    let at = put_answer(out, answer);
-    table::put(out, at, table)
+fn read(out: &mut Page, file: &[u8], blocks: &mut [u32]) {
+    table::mark(blocks, 4_000_000_000);
+    put_answer(out, loadfile::read(file, blocks));
+    table::put(out, blocks);
 }
 
-fn name<'a>(out: &mut line::Page, file: &'a [u8], standing: &'a [u8], flow: usize) -> usize {
-    let part = loadfile::name(file, standing, flow);
-    let at = line::text(out, 0, b"name ");
-    line::hex(out, at, part)
+fn name(out: &mut Page, file: &[u8], standing: &[u8], flow: usize) {
+    out.text(b"name ");
+    out.hex(loadfile::name(file, standing, flow));
 }
 
-// Makes the case's call, with tables of just the words that it asks for. It answers 0 where there are fewer.
-fn run<'a>(
-    out: &mut line::Page,
-    call: Call,
-    file: &'a [u8],
-    standing: &'a [u8],
-    table: &mut [u32],
-    rows: &mut [u64],
-) -> usize {
-    match call {
-        Call::Sound => sound(out, file),
-        Call::Read(words) => {
-            if table.len() < words {
-                return 0;
+// Reads the next part of a case into just its bytes of the room for it.
+fn part<'a, R: Read>(from: &mut R, room: &'a mut [u8], bytes: usize) -> Result<&'a [u8], BadCase> {
+    let part = room.get_mut(..bytes).ok_or(BadCase)?;
+    if read_full(from, part) < bytes {
+        return Err(BadCase);
+    }
+    Ok(part)
+}
+
+// The room for a case's parts, and for the tables that it lends.
+#[derive(Drop)]
+pub struct Room {
+    file: [u8; 65_536],
+    standing: [u8; 65_536],
+    blocks: [u32; 8_192],
+    rows: [u64; 16_384],
+}
+
+impl Room {
+    pub fn new() -> Room {
+        Room {
+            file: [0; 65_536],
+            standing: [0; 65_536],
+            blocks: [0; 8_192],
+            rows: [0; 16_384],
+        }
+    }
+
+    // Reads what follows the head, and makes the case's call, with tables of just the words that it asks for. The case is bad where
+    // there is no room for a part or a table, the input ends inside, or a plan's parameters are wrong.
+    pub fn run<R: Read>(
+        &mut self,
+        from: &mut R,
+        head: Head,
+        out: &mut Page,
+    ) -> Result<(), BadCase> {
+        let standing = part(from, &mut self.standing, head.standing)?;
+        let file = part(from, &mut self.file, head.file)?;
+        match head.call {
+            Call::Sound => sound(out, file),
+            Call::Read(words) => {
+                let blocks = self.blocks.get_mut(..words).ok_or(BadCase)?;
+                read(out, file, blocks);
             }
-            reader(out, file, &mut table[0..words])
+            Call::Name(flow) => name(out, file, standing, flow),
+            Call::Plan => planned::run(out, standing, file, &mut self.blocks, &mut self.rows)?,
         }
-        Call::Name(flow) => name(out, file, standing, flow),
-        Call::Plan => planned::run(out, standing, file, table, rows),
+        Ok(())
     }
-}
-
-fn fill<R: Read>(from: &mut R, part: &mut [u8]) -> bool {
-    input::read_full(from, part) == part.len()
-}
-
-fn fill_and_run<R: Read>(
-    from: &mut R,
-    out: &mut line::Page,
-    call: Call,
-    file: &mut [u8],
-    standing: &mut [u8],
-    table: &mut [u32],
-    rows: &mut [u64],
-) -> usize {
-    if !fill(from, standing) {
-        return 0;
-    }
-    if !fill(from, file) {
-        return 0;
-    }
-    run(out, call, file, standing, table, rows)
-}
-
-// Reads what follows the head, and runs the case on parts of just the lengths that the head gives. It answers the length of
-// the case's line, or 0 where the case is malformed: a part is longer than the room for it, the input ends inside, or a
-// plan's parameters are wrong.
-pub fn finish<R: Read>(
-    from: &mut R,
-    out: &mut line::Page,
-    head: Head,
-    file: &mut [u8],
-    standing: &mut [u8],
-    table: &mut [u32],
-    rows: &mut [u64],
-) -> usize {
-    let call = head.call;
-    let file_end = head.file;
-    let standing_end = head.standing;
-    if file.len() < file_end {
-        return 0;
-    }
-    if standing.len() < standing_end {
-        return 0;
-    }
-    fill_and_run(
-        from,
-        out,
-        call,
-        &mut file[0..file_end],
-        &mut standing[0..standing_end],
-        table,
-        rows,
-    )
 }

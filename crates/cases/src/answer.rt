@@ -1,37 +1,38 @@
 // The line of a plan's case.
-ghost use Rattle.std.specs.Prelude.{◌≤◌};
+ghost use Rattle.std.specs.Prelude.{◌≤◌, length};
 
-use crate::record::Flows;
-use crate::{record, words};
+use crate::{record, table};
+use line::Page;
 use load::refusal::Verdict;
 use rules::answer::Planned;
+use rules::record::FlowRecord;
 
-fn put_planned(out: &mut line::Page, planned: Planned) -> usize {
+fn put_planned(out: &mut Page, planned: Planned) {
     match planned {
         Planned::Refused(why) => {
-            let at = line::text(out, 0, b"plan ");
-            let at = line::decimal(out, at, load::refusal::number(Verdict::Refused(why)));
-            line::text(out, at, b" 0 0 0 0 0 0")
+            out.text(b"plan ");
+            out.decimal(load::refusal::number(Verdict::Refused(why)));
+            out.text(b" 0 0 0 0 0 0");
         }
         Planned::Plan(summary) => {
-            let at = line::text(out, 0, b"plan 0");
-            let at = line::spaced(out, at, summary.blocks);
-            let at = line::spaced(out, at, summary.turns);
-            let at = line::spaced(out, at, summary.rounds);
-            let at = line::spaced(out, at, summary.held);
-            let at = line::spaced(out, at, summary.ticks);
-            line::spaced(out, at, summary.end)
+            out.text(b"plan 0");
+            out.spaced(summary.blocks);
+            out.spaced(summary.turns);
+            out.spaced(summary.rounds);
+            out.spaced(summary.held);
+            out.spaced(summary.ticks);
+            out.spaced(summary.end);
         }
     }
 }
 
 // The case's line: the answer, the records lent and the rows.
-pub fn put(out: &mut line::Page, planned: Planned, flows: Flows, n: usize, rows: &[u64]) -> usize
-    requires { n ≤ 128 }
+pub fn put(out: &mut Page, planned: Planned, flows: &[FlowRecord], rows: &[u64])
+    requires { length flows.now ≤ 128 }
 {
-    let all = record::words(flows);
-    let words: &[u64] = &all;
-    let at = put_planned(out, planned);
-    let at = words::put(out, at, &words[0..3 * n]);
-    words::put(out, at, rows)
+    put_planned(out, planned);
+    out.text(b" |");
+    table::put(out, record::words(flows)[..flows.len()].as_flattened());
+    out.text(b" |");
+    table::put(out, rows);
 }

@@ -1,11 +1,9 @@
 // A case's head: which call it is for, the call's number, and how long the case's two parts are.
-ghost use Rattle.std.specs.Prelude.{◌≤◌, length};
-
+use crate::BadCase;
 use crate::input::read_full;
-use records::bytes::four;
 use std::io::Read;
 
-#[derive(Clone, Copy)]
+#[derive(Clone, Copy, Debug, PartialEq, Eq)]
 pub enum Call {
     Sound,
     // The words of the block table that is lent.
@@ -15,49 +13,41 @@ pub enum Call {
     Plan,
 }
 
-#[derive(Clone, Copy)]
+#[derive(Clone, Copy, Debug, PartialEq, Eq)]
 pub struct Head {
     pub call: Call,
     pub standing: usize,
     pub file: usize,
 }
 
-#[derive(Clone, Copy)]
-pub enum Next {
-    // The input ends between two cases.
-    End,
-    Bad,
-    Case(Head),
+// The call's byte, and three words of 32 bits.
+impl TryFrom<[u8; 13]> for Head {
+    type Error = BadCase;
+
+    fn try_from(bytes: [u8; 13]) -> Result<Head, BadCase> {
+        let (words, _) = bytes[1..].as_chunks::<4>();
+        let number = u32::from_be_bytes(words[0]) as usize;
+        let call = match bytes[0] {
+            1 => Call::Sound,
+            2 => Call::Read(number),
+            3 => Call::Name(number),
+            4 => Call::Plan,
+            _ => return Err(BadCase),
+        };
+        Ok(Head {
+            call,
+            standing: u32::from_be_bytes(words[1]) as usize,
+            file: u32::from_be_bytes(words[2]) as usize,
+        })
+    }
 }
 
-fn parse(bytes: &[u8]) -> Next
-    requires { 13 ≤ length bytes.now }
-{
-    let number = four(bytes, 1) as usize;
-    let standing = four(bytes, 5) as usize;
-    let file = four(bytes, 9) as usize;
-    let call = match bytes[0] {
-        1 => Call::Sound,
-        2 => Call::Read(number),
-        3 => Call::Name(number),
-        4 => Call::Plan,
-        _ => return Next::Bad,
-    };
-    Next::Case(Head {
-        call,
-        standing,
-        file,
-    })
-}
-
-pub fn read<R: Read>(input: &mut R) -> Next {
-    let mut bytes = [0u8; 13];
-    let got = read_full(input, &mut bytes);
-    if got == 0 {
-        return Next::End;
+// The next case's head, or none where the input ends between two cases.
+pub fn read<R: Read>(input: &mut R) -> Result<Option<Head>, BadCase> {
+    let mut bytes = [0; 13];
+    match read_full(input, &mut bytes) {
+        0 => Ok(None),
+        13 => Head::try_from(bytes).map(Some),
+        _ => Err(BadCase),
     }
-    if got < 13 {
-        return Next::Bad;
-    }
-    parse(&bytes)
 }

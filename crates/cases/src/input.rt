@@ -12,13 +12,10 @@ pub fn read_full<R: Read>(input: &mut R, part: &mut [u8]) -> usize
 {
     let mut got = 0;
     while got < part.len() {
-        let Ok(more) = input.read(&mut part[got..]) else {
-            break;
-        };
-        if more == 0 {
-            break;
+        match input.read(&mut part[got..]) {
+            Ok(0) | Err(_) => break,
+            Ok(more) => got += more,
         }
-        got += more;
     }
     got
 }

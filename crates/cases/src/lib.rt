@@ -8,4 +8,7 @@ pub mod input;
 pub mod parameters;
 pub mod record;
 pub mod table;
-pub mod words;
+
+// A case that can't be run: its head or a part of it is cut off or wrong, or it asks for more than there is room for.
+#[derive(Clone, Copy, Debug, PartialEq, Eq)]
+pub struct BadCase;

@@ -1,8 +1,7 @@
 // What a plan's case gives: the parameters of the call, and the block table's words.
-ghost use Rattle.std.specs.Prelude.{◌+◌, ◌*◌, ◌≤◌, length};
+ghost use Rattle.std.specs.Prelude.{◌≤◌, length};
 
 use load::counts::Counts;
-use records::bytes::four;
 
 #[derive(Clone, Copy)]
 pub struct Parameters {
@@ -13,34 +12,28 @@ pub struct Parameters {
     pub row_words: usize,
 }
 
-fn eight(bytes: &[u8], at: usize) -> usize
-    requires { at + 8 ≤ length bytes.now }
-{
-    four(bytes, at) as usize * 4_294_967_296 + four(bytes, at + 4) as usize
-}
-
 // The parameters that the case's 40 bytes give.
 pub fn read(bytes: &[u8]) -> Parameters
     requires { 40 ≤ length bytes.now }
 {
-    let counts = Counts {
-        stages: eight(bytes, 8),
-        flows: eight(bytes, 16),
-        blocks: eight(bytes, 24),
-    };
+    let (words, _) = bytes.as_chunks::<8>();
+    let (lent, _) = bytes[32..].as_chunks::<4>();
     Parameters {
-        limit: eight(bytes, 0) as u64,
-        counts,
-        flow_records: four(bytes, 32) as usize,
-        row_words: four(bytes, 36) as usize,
+        limit: u64::from_be_bytes(words[0]),
+        counts: Counts {
+            stages: usize::from_be_bytes(words[1]),
+            flows: usize::from_be_bytes(words[2]),
+            blocks: usize::from_be_bytes(words[3]),
+        },
+        flow_records: u32::from_be_bytes(lent[0]) as usize,
+        row_words: u32::from_be_bytes(lent[1]) as usize,
     }
 }
 
-// Takes the block table from the case's bytes, four for each word.
-pub fn fill(table: &mut [u32], bytes: &[u8])
-    requires { 4 * length table.old ≤ length bytes.now }
-{
-    for i in 0..table.len() {
-        table[i] = four(bytes, 4 * i);
+// Takes the block table from the case's bytes, four for each word, as far as they go.
+pub fn fill(table: &mut [u32], bytes: &[u8]) {
+    let (words, _) = bytes.as_chunks::<4>();
+    for (word, &bytes) in table.iter_mut().zip(words) {
+        *word = u32::from_be_bytes(bytes);
     }
 }

@@ -1,43 +1,56 @@
-// The block table that a reader's case lends: what stands in it before the call, and how it is written after.
-ghost use Rattle.std.specs.Prelude.{◌<◌};
+// A table of words that a case lends: what stands in it before the call, and how it is shown after.
+use line::Page;
 
-fn wide(word: u32) -> u64
-    ensures { result < 4294967296 }
-{
-    word as u64
+// A word of such a table, of 32 or 64 bits.
+pub trait Word: Copy + Into<u64> {
+    // The number above it; above the largest stands 0.
+    fn next(self) -> Self;
+
+    // The digest `before` once it has taken in the word.
+    fn digest(self, before: u32) -> u32;
 }
 
-// Word i becomes 4,000,000,000 + i, so that a line shows which words the call wrote. No lent table is so long that the sum
-// wraps, and a sum that may wrap asks no proof of it.
-pub fn mark(table: &mut [u32]) {
-    let mut word: u32 = 4_000_000_000;
-    for i in 0..table.len() {
-        table[i] = word;
-        word = std::num::wrapping_add_u32(word, 1);
+impl Word for u32 {
+    fn next(self) -> u32 {
+        self.wrapping_add(1)
+    }
+
+    fn digest(self, before: u32) -> u32 {
+        before.wrapping_mul(16_777_619).wrapping_add(self)
     }
 }
 
-fn digest(table: &[u32]) -> u64 {
-    let mut h: u64 = 0;
-    for i in 0..table.len() {
-        h = (h * 16_777_619 + wide(table[i])) % 4_294_967_296;
+impl Word for u64 {
+    fn next(self) -> u64 {
+        self.wrapping_add(1)
     }
-    h
+
+    // Its low half comes first.
+    fn digest(self, before: u32) -> u32 {
+        let low = (self & 0xffff_ffff) as u32;
+        let high = (self >> 32) as u32;
+        high.digest(low.digest(before))
+    }
 }
 
-fn words(out: &mut line::Page, at: usize, table: &[u32]) -> usize {
-    let mut end = at;
-    for i in 0..table.len() {
-        end = line::spaced(out, end, wide(table[i]));
+// Word i becomes first + i, so that a line shows which words the call wrote.
+pub fn mark<W: Word>(table: &mut [W], first: W) {
+    let mut mark = first;
+    for word in table {
+        *word = mark;
+        mark = mark.next();
     }
-    end
 }
 
 // All words of a short table, or the digest of a long one.
-pub fn put(out: &mut line::Page, at: usize, table: &[u32]) -> usize {
+pub fn put<W: Word>(out: &mut Page, table: &[W]) {
     if table.len() <= 60 {
-        return words(out, at, table);
+        for &word in table {
+            out.spaced(word.into());
+        }
+    } else {
+        let digest = table.iter().fold(0, |digest, word| word.digest(digest));
+        out.text(b" #");
+        out.decimal(digest.into());
     }
-    let end = line::text(out, at, b" #");
-    line::decimal(out, end, digest(table))
 }

@@ -111,6 +111,10 @@ unfolding hex_of
 hex_none [] h = refl
 hex_none (x ∷ xs) h = absurd (omega arith)
 
+pub ruleset decimal_laws = (decimal_small, decimal_next)
+
+pub ruleset hex_laws = (hex_two, hex_none, hex_next, hex_all)
+
 -- `0`, `7`, `10`, `1000000000` and the largest number of 64 bits; the bytes 0 and 255, and no byte: computed.
 decimals : map decimal_of (0 ∷ 7 ∷ 10 ∷ 1000000000 ∷ 18446744073709551615 ∷ []) ≡ (48 ∷ []) ∷ (55 ∷ []) ∷ (49 ∷ 48 ∷ []) ∷ (49 ∷ 48 ∷ 48 ∷ 48 ∷ 48 ∷ 48 ∷ 48 ∷ 48 ∷ 48 ∷ 48 ∷ []) ∷ (49 ∷ 56 ∷ 52 ∷ 52 ∷ 54 ∷ 55 ∷ 52 ∷ 52 ∷ 48 ∷ 55 ∷ 51 ∷ 55 ∷ 48 ∷ 57 ∷ 53 ∷ 53 ∷ 49 ∷ 54 ∷ 49 ∷ 53 ∷ []) ∷ []
 unfolding decimal_of digits_in

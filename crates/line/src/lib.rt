@@ -1,68 +1,124 @@
-// What a program prints is made in an array, a page, and written by one function. `at` is how many of the page's bytes are there.
-// A function that puts bytes behind them answers how many there are then.
+// What a program prints is made on a page, one byte behind the other, and written by one function.
 #![tactic(auto)]
 
-ghost use Rattle.std.specs.Prelude.{◌<◌, min, [], ◌∷◌, ◌≡◌, IsTrue, replicate, take};
+ghost use Rattle.std.specs.Prelude.{◌<◌, [], ◌∷◌, ◌≡◌, OnOk};
 ghost use Rattle.std.specs.Io.KnownBytes.{Appends};
 ghost use Rattle.line.specs.Numerals.{decimal_of, hex_digit_ascii, hex_of, last_digits};
-ghost use Rattle.line.specs.Pages.{Put, room};
+ghost use Rattle.line.specs.Pages.{Put};
 
+use std::io;
 use std::io::Write;
+use std::marker::Model;
 
 // Room for the listing of a load: 512 lines of at most 326 bytes, and the line of the counts.
-pub type Page = [u8; 196_608];
+const ROOM: usize = 196_608;
 
-pub fn empty() -> Page
-    ensures { result ≡ replicate room 0 }
-{
-    [0; 196_608]
+#[derive(Drop)]
+pub struct Page {
+    bytes: [u8; ROOM],
+    len: usize,
 }
 
-// A full page takes no more.
-pub fn put(out: &mut Page, at: usize, byte: u8) -> usize
-    ensures { Put out.old at (byte ∷ []) out.new result }
-{
-    let page: &mut [u8] = out;
-    if at < 196_608 {
-        page[at] = byte;
-        return at + 1;
+// Clauses see the bytes that were put, the first of them first.
+impl Model for Page {
+    ghost use Rattle.std.specs.Prelude.{ℕ, List, take};
+
+    ghost Value = { List ℕ };
+
+    ghost view = { λ p. take p.len p.bytes };
+}
+
+impl Page {
+    pub fn new() -> Self
+        ensures { result ≡ [] }
+    {
+        Page {
+            bytes: [0; ROOM],
+            len: 0,
+        }
     }
-    196_608
-}
 
-// Where bytes are put that come behind the first `at`: at the page's end where `at` is beyond it.
-fn start(at: usize) -> usize
-    ensures { result ≡ min at room }
-{
-    if at < 196_608 { at } else { 196_608 }
-}
-
-pub fn text(out: &mut Page, at: usize, bytes: &[u8]) -> usize
-    ensures { Put out.old at bytes.now out.new result }
-{
-    let mut end = start(at);
-    for i in 0..bytes.len() {
-        end = put(out, end, bytes[i]);
+    // Begins the page anew.
+    pub fn clear(&mut self)
+        ensures { self.new ≡ [] }
+    {
+        self.len = 0;
     }
-    end
-}
 
-pub fn decimal(out: &mut Page, at: usize, n: u64) -> usize
-    ensures { Put out.old at (decimal_of n) out.new result }
-{
-    if n < 10 {
-        return put(out, at, b'0' + n as u8);
+    // A full page takes no more.
+    pub fn put(&mut self, byte: u8)
+        ensures { Put self.old (byte ∷ []) self.new }
+    {
+        if self.len < ROOM {
+            self.bytes[self.len] = byte;
+            self.len += 1;
+        }
     }
-    let next = decimal(out, at, n / 10);
-    put(out, next, b'0' + (n % 10) as u8)
-}
 
-// A space and a number.
-pub fn spaced(out: &mut Page, at: usize, n: u64) -> usize
-    ensures { Put out.old at (32 ∷ decimal_of n) out.new result }
-{
-    let next = put(out, at, b' ');
-    decimal(out, next, n)
+    #[tactic(auto, using(crate::proofs::Pages::page_laws))]
+    pub fn text(&mut self, bytes: &[u8])
+        ensures { Put self.old bytes.now self.new }
+    {
+        for &byte in bytes {
+            self.put(byte);
+        }
+    }
+
+    // Digits are put one by one, here and in hexadecimal: `write!` would make of each line a `fmt::Result` that is never an `Err`.
+    #[tactic(auto, using(crate::proofs::Pages::put_both, crate::proofs::Digits::decimal_laws))]
+    pub fn decimal(&mut self, n: u64)
+        ensures { Put self.old (decimal_of n) self.new }
+    {
+        if 10 <= n {
+            self.decimal(n / 10);
+        }
+        self.put(b'0' + (n % 10) as u8);
+    }
+
+    // A space and a number.
+    #[tactic(auto, using(crate::proofs::Pages::put_both))]
+    pub fn spaced(&mut self, n: u64)
+        ensures { Put self.old (32 ∷ decimal_of n) self.new }
+    {
+        self.put(b' ');
+        self.decimal(n);
+    }
+
+    // Two hexadecimal digits.
+    #[tactic(auto, using(crate::proofs::Pages::put_both, crate::proofs::Digits::hex_two))]
+    fn hex_byte(&mut self, byte: u8)
+        ensures { Put self.old (last_digits 16 2 byte) self.new }
+    {
+        self.put(hex_digit(byte / 16));
+        self.put(hex_digit(byte % 16));
+    }
+
+    // The bytes in hexadecimal, or a dash where there are none.
+    #[tactic(auto, using(crate::proofs::Pages::page_laws, crate::proofs::Digits::hex_laws), unfolding(crate::specs::Numerals::hex_digits))]
+    pub fn hex(&mut self, bytes: &[u8])
+        ensures { Put self.old (hex_of bytes.now) self.new }
+    {
+        if bytes.is_empty() {
+            return self.put(b'-');
+        }
+        for &byte in bytes {
+            self.hex_byte(byte);
+        }
+    }
+
+    // Ends the line.
+    pub fn end(&mut self)
+        ensures { Put self.old (10 ∷ []) self.new }
+    {
+        self.put(b'\n');
+    }
+
+    // Writes the page. No other function of the libraries writes what a program prints.
+    pub fn write<W: Write>(&self, to: &mut W) -> io::Result<()>
+        ensures { OnOk result (Appends (W.contents to.old) (W.contents to.new) self.now) }
+    {
+        to.write_all(&self.bytes[..self.len.min(ROOM)])
+    }
 }
 
 // A hexadecimal digit in lower case.
@@ -71,42 +127,4 @@ fn hex_digit(d: u8) -> u8
     ensures { result ≡ hex_digit_ascii d }
 {
     if d < 10 { b'0' + d } else { b'a' - 10 + d }
-}
-
-fn hex_byte(out: &mut Page, at: usize, byte: u8) -> usize
-    ensures { Put out.old at (last_digits 16 2 byte) out.new result }
-{
-    let next = put(out, at, hex_digit(byte / 16));
-    put(out, next, hex_digit(byte % 16))
-}
-
-// The bytes in hexadecimal, or a dash where there are none.
-pub fn hex(out: &mut Page, at: usize, bytes: &[u8]) -> usize
-    ensures { Put out.old at (hex_of bytes.now) out.new result }
-{
-    if bytes.len() == 0 {
-        return put(out, at, b'-');
-    }
-    let mut end = start(at);
-    for i in 0..bytes.len() {
-        end = hex_byte(out, end, bytes[i]);
-    }
-    end
-}
-
-// Ends the line.
-pub fn end(out: &mut Page, at: usize) -> usize
-    ensures { Put out.old at (10 ∷ []) out.new result }
-{
-    put(out, at, b'\n')
-}
-
-// Writes the page's first n bytes, or all where n is larger. It answers false where a write failed. No other function of the
-// libraries writes what a program prints.
-pub fn write<W: Write>(to: &mut W, out: &Page, n: usize) -> bool
-    ensures { IsTrue result → Appends (W.contents to.old) (W.contents to.new) (take n out.now) }
-{
-    let page: &[u8] = out;
-    let end = start(n);
-    to.write_all(&page[0..end]).is_ok()
 }

@@ -1,3 +1,3 @@
-pub mod Leading
+pub mod Left
 pub mod Short
 pub mod Unique

@@ -1,113 +1,131 @@
 // The lines of a listing, each put behind what the page has. `specs/Lines.antt` has the bytes of each.
 #![tactic(auto)]
 
-ghost use Rattle.std.specs.Prelude.{[], ◌*◌, ◌≤◌, length};
+ghost use Rattle.std.specs.Prelude.{[], ◌*◌, ◌≡◌, ◌≤◌, length, true};
 ghost use Rattle.loadfile.specs.Calls.{shown_name};
-ghost use Rattle.rules.specs.Rows.{row_at, rows_in};
-ghost use Rattle.line.specs.Pages.{Put, room};
+ghost use Rattle.rules.specs.Rows.{row_at as Rows·row_at, rows_in};
+ghost use Rattle.line.specs.Pages.{Put};
 ghost use Rattle.lines.specs.Lines.{counts_line, named_row, refused_line, row_lines, runs as Lines·runs, shown as Lines·shown, start_finish};
 
 use line::Page;
-use load::refusal::{Refusal, Verdict};
+use load::refusal::Refusal;
 use rules::answer::Summary;
+use rules::row::Row;
+use rules::stages::{Span, Way};
 
-pub fn refused(out: &mut Page, why: Refusal) -> usize
-    ensures { Put out.old 0 (refused_line why) out.new result }
+#[tactic(auto, using(line::proofs::Pages::put_both), unfolding(crate::specs::Lines::refused_line))]
+pub fn refused(page: &mut Page, why: Refusal)
+    ensures { Put page.old (refused_line why) page.new }
 {
-    let at = line::text(out, 0, b"refused");
-    let at = line::spaced(out, at, load::refusal::number(Verdict::Refused(why)));
-    line::end(out, at)
+    page.text(b"refused");
+    page.spaced(why.number());
+    page.end();
 }
 
-pub fn counts(out: &mut Page, summary: Summary) -> usize
-    ensures { Put out.old 0 (counts_line summary) out.new result }
+#[tactic(auto, using(line::proofs::Pages::put_both), unfolding(crate::specs::Lines::counts_line))]
+pub fn counts(page: &mut Page, summary: Summary)
+    ensures { Put page.old (counts_line summary) page.new }
 {
-    let at = line::decimal(out, 0, summary.blocks);
-    let at = line::spaced(out, at, summary.turns);
-    let at = line::spaced(out, at, summary.rounds);
-    let at = line::spaced(out, at, summary.held);
-    let at = line::spaced(out, at, summary.ticks);
-    let at = line::spaced(out, at, summary.end);
-    line::end(out, at)
+    page.decimal(summary.blocks);
+    page.spaced(summary.turns);
+    page.spaced(summary.rounds);
+    page.spaced(summary.held);
+    page.spaced(summary.ticks);
+    page.spaced(summary.end);
+    page.end();
 }
 
 // A name, or a dash where it is empty.
-fn shown(out: &mut Page, at: usize, name: &[u8]) -> usize
-    ensures { Put out.old at (Lines·shown name.now) out.new result }
+#[tactic(auto, using(crate::proofs::Left::shown_dash, crate::proofs::Left::shown_all))]
+fn shown(page: &mut Page, name: &[u8])
+    ensures { Put page.old (Lines·shown name.now) page.new }
 {
-    if name.len() == 0 {
-        return line::put(out, at, b'-');
-    }
-    line::text(out, at, name)
+    page.text(if name.is_empty() { b"-" } else { name });
 }
 
 // The name shown for a flow, with an empty standing list.
-fn name(out: &mut Page, at: usize, file: &[u8], flow: u64) -> usize
-    ensures { Put out.old at (Lines·shown (shown_name file.now [] flow)) out.new result }
+fn name(page: &mut Page, file: &[u8], flow: u64)
+    ensures { Put page.old (Lines·shown (shown_name file.now [] flow)) page.new }
 {
-    let part = loadfile::name(file, b"", flow as usize);
-    shown(out, at, part)
+    shown(page, loadfile::name(file, b"", flow as usize));
 }
 
-// Start and finish at a stage, or nothing where the load lacks it.
-fn run(out: &mut Page, at: usize, has: bool, start: u64, finish: u64) -> usize
-    requires { at ≤ room }
-    ensures { Put out.old at (start_finish has (record { start = start; finish = finish })) out.new result }
+// Start and finish at a stage.
+#[tactic(auto, using(line::proofs::Pages::put_both), unfolding(crate::specs::Lines::start_finish))]
+fn run(page: &mut Page, span: Span)
+    ensures { Put page.old (start_finish true span) page.new }
 {
-    if !has {
-        return at;
+    page.spaced(span.start);
+    page.put(b'-');
+    page.decimal(span.finish);
+}
+
+// The runs at the stages that the load has.
+#[tactic(auto, using(line::proofs::Pages::put_both, line::proofs::Pages::put_nothing, crate::proofs::Left::runs_are, crate::proofs::Left::runs_next))]
+fn runs(page: &mut Page, stages: usize, way: Way)
+    ensures { Put page.old (Lines·runs stages way) page.new }
+{
+    for &span in [way.one, way.two, way.three, way.four].iter().take(stages) {
+        run(page, span);
     }
-    let at = line::spaced(out, at, start);
-    let at = line::put(out, at, b'-');
-    line::decimal(out, at, finish)
 }
 
-// The runs at the stages that the load has, which are the row's last eight words.
-fn runs(out: &mut Page, at: usize, stages: usize, words: &[u64]) -> usize
-    requires { (at ≤ room) × (15 ≤ length words.now) }
-    ensures { Put out.old at (Lines·runs stages (row_at words.now).way) out.new result }
+#[tactic(auto, using(line::proofs::Pages::put_both), unfolding(crate::specs::Lines::row_line))]
+fn row(page: &mut Page, file: &[u8], stages: usize, row: Row)
+    ensures { Put page.old (named_row file.now stages row) page.new }
 {
-    let at = run(out, at, 1 <= stages, words[7], words[8]);
-    let at = run(out, at, 2 <= stages, words[9], words[10]);
-    let at = run(out, at, 3 <= stages, words[11], words[12]);
-    run(out, at, 4 <= stages, words[13], words[14])
+    name(page, file, row.flow);
+    page.spaced(row.block);
+    page.spaced(row.round);
+    page.spaced(row.turn);
+    page.spaced(row.balance);
+    page.spaced(row.hold);
+    page.spaced(row.stage);
+    runs(page, stages, row.way);
+    page.end();
 }
 
-// The row at the start of these words: block, flow, round, turn, balance, hold, dominant stage, and the runs.
-fn row(out: &mut Page, at: usize, file: &[u8], stages: usize, words: &[u64]) -> usize
+// The row that these words hold: block, flow, round, turn, balance, hold, dominant stage, and the runs.
+#[tactic(auto, unfolding(rules::specs::Rows::row_at))]
+fn row_at(words: &[u64]) -> Row
     requires { 15 ≤ length words.now }
-    ensures { Put out.old at (named_row file.now stages (row_at words.now)) out.new result }
+    ensures { result ≡ Rows·row_at words.now }
 {
-    let at = name(out, at, file, words[1]);
-    let at = line::spaced(out, at, words[0]);
-    let at = line::spaced(out, at, words[2]);
-    let at = line::spaced(out, at, words[3]);
-    let at = line::spaced(out, at, words[4]);
-    let at = line::spaced(out, at, words[5]);
-    let at = line::spaced(out, at, words[6]);
-    let at = runs(out, at, stages, words);
-    line::end(out, at)
+    Row {
+        block: words[0],
+        flow: words[1],
+        round: words[2],
+        turn: words[3],
+        balance: words[4],
+        hold: words[5],
+        stage: words[6],
+        way: Way {
+            one: Span {
+                start: words[7],
+                finish: words[8],
+            },
+            two: Span {
+                start: words[9],
+                finish: words[10],
+            },
+            three: Span {
+                start: words[11],
+                finish: words[12],
+            },
+            four: Span {
+                start: words[13],
+                finish: words[14],
+            },
+        },
+    }
 }
 
 // The rows of so many blocks, from the start of the table on.
-pub fn rows(
-    out: &mut Page,
-    at: usize,
-    file: &[u8],
-    stages: usize,
-    blocks: u64,
-    table: &[u64],
-) -> usize
-    requires { (at ≤ room) × (15 * blocks ≤ length table.now) }
-    ensures { Put out.old at (row_lines file.now stages (rows_in blocks table.now)) out.new result }
+pub fn rows(page: &mut Page, file: &[u8], stages: usize, blocks: u64, table: &[u64])
+    requires { 15 * blocks ≤ length table.now }
+    ensures { Put page.old (row_lines file.now stages (rows_in blocks table.now)) page.new }
 {
-    let mut end = at;
-    let mut from = 0;
-    let mut left = blocks;
-    while 0 < left {
-        end = row(out, end, file, stages, &table[from..]);
-        from += 15;
-        left -= 1;
+    for words in table.chunks_exact(15).take(blocks as usize) {
+        row(page, file, stages, row_at(words));
     }
-    end
 }

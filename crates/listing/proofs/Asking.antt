@@ -1,4 +1,5 @@
 -- What the plan call answers of a load that it accepts: no refusal, and the counts and row words of the lines of its plan.
+use Rattle.std.specs.Prelude.{Err, Ok, Result}
 use Prim.Native.Nat.{ℕ, ◌≤◌, min, ◌*◌}
 use mathlib.Core.List.{List, ◌++◌}
 use mathlib.Core.Path.{◌≡◌, refl, sym, ap, ◌∙◌}
@@ -6,12 +7,10 @@ use native.Mathlib.Omega.{arith}
 use lib.ListN.{drop, length}
 use Rattle.load.specs.declared.counts.Counts.{Counts}
 use Rattle.load.specs.declared.refusal.Refusal.{Refusal}
-use Rattle.load.specs.declared.refusal.Verdict.TheVariants.{Accepted}
-use Rattle.rules.specs.declared.answer.Planned.{Planned}
-use Rattle.rules.specs.declared.answer.Planned.TheVariants.{Plan, Refused}
 use Rattle.rules.specs.declared.answer.Summary.{Summary}
 use Rattle.rules.specs.declared.row.Row.{Row}
-use Rattle.rules.specs.Calls.{answer_of, rows_after}
+use Rattle.rules.specs.declared.record.FlowRecord.{FlowRecord}
+use Rattle.rules.specs.Calls.{answer_of, Plans, rows_after}
 use Rattle.rules.specs.Counts.{none, summary}
 use Rattle.rules.specs.Load.{load_of}
 use Rattle.rules.specs.Plan.{plan}
@@ -24,18 +23,23 @@ use Rattle.lines.specs.Lines.{counts_line, row_lines}
 use Rattle.listing.specs.Asked.{Asked, verdict}
 use Rattle.listing.specs.Listing.{plan_lines}
 
-module _ (c : Counts) (table rows : List ℕ) (answer : Planned) (rowsThen : List ℕ) (accepted : verdict c table rows ≡ Accepted) (asked : Asked c table rows answer rowsThen) where
+-- what the call promises, where 64 flow records are lent
+pub asked_of : {c : Counts} {table rows rowsThen : List ℕ} {flows flowsThen : List FlowRecord} {answer : Result Summary Refusal} → Plans c 512 table flows rows answer flowsThen rowsThen → length flows ≡ 64
+    → Asked c table rows answer rowsThen
+asked_of p long = record { answers = rw long at p.answers; rows_left = rw long at p.rows_left }
+
+module _ {c : Counts} {table rows : List ℕ} {answer : Result Summary Refusal} {rowsThen : List ℕ} (accepted : verdict c table rows ≡ Ok tt) (asked : Asked c table rows answer rowsThen) where
   abbrev rs : List Row
   rs = plan (load_of c table) 512
 
-  answer_is : answer ≡ Plan (summary c.stages none rs)
+  answer_is : answer ≡ Ok (summary c.stages none rs)
   unfolding answer_of
   answer_is = asked.answers ∙ ap (answer_of c 512 table) accepted
 
-  pub not_refused : (r : Refusal) → answer ≡ Refused r → ⊥
-  not_refused r e = let is = answer_is in let z : ◌≡◌ {A = ℕ} 0 1 = cc in omega arith
+  pub not_refused : {r : Refusal} → answer ≡ Err r → ⊥
+  not_refused e = let is = answer_is in cc
 
-  module _ (s : Summary) (e : answer ≡ Plan s) where
+  module _ {s : Summary} (e : answer ≡ Ok s) where
     counts_are : s ≡ summary c.stages none rs
     counts_are = let is = answer_is in cc
 
@@ -55,6 +59,5 @@ module _ (c : Counts) (table rows : List ℕ) (answer : Planned) (rowsThen : Lis
     unfolding plan_lines
     lines_are file = rw (rows_are, counts_are) refl
 
-    pub plan_put : (file : List ℕ) {b m a : List ℕ} {at e : ℕ} → Put b 0 (counts_line s) m at → Put m at (row_lines file c.stages (rows_in s.blocks rowsThen)) a e
-        → Put b 0 (plan_lines file c table) a e
-    plan_put file p q = rw (lines_are file) (put_then p q)
+    pub plan_put : (file b m a : List ℕ) → Put b (counts_line s) m → Put m (row_lines file c.stages (rows_in s.blocks rowsThen)) a → Put b (plan_lines file c table) a
+    plan_put file b m a p q = rw (lines_are file) (put_then b _ m _ a p q)

@@ -1,6 +1,6 @@
 -- The page has room for every listing: the counts' line has at most 126 bytes, a row's at most 326, and the plan lists at most 512 blocks.
 use Prim.Native.Nat.{ℕ, suc, zero, ◌≤◌, min}
-use mathlib.Core.List.{List}
+use mathlib.Core.List.{List, []}
 use mathlib.Core.Option.{none as nothing, Option, some}
 use mathlib.Core.Path.{◌≡◌}
 use native.Mathlib.Omega.{arith}
@@ -41,6 +41,6 @@ listing_fits file = go (contents file) where
   go (refused r) = omega (arith, refused_short r)
   go (parsed l at) = plan_short file l.counts (table_words l.blocks)
 
--- so what is put from a page's start on is all there
-pub all_there : {b a : List ℕ} {e : ℕ} {more : List ℕ} (file : List ℕ) → listing file ≡ more → Put b 0 more a e → Makes file b e a
-all_there file same p = record { within = p.within; lists = rw same (put_whole p (rw (← same) (listing_fits file))); rest = p.rest }
+-- so what is put on an empty page is all there
+pub all_there : (file more a : List ℕ) → listing file ≡ more → Put [] more a → Makes file a
+all_there file more a same p = rw same (put_whole more a p (rw (← same) (listing_fits file)))

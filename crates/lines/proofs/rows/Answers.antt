@@ -1,28 +1,27 @@
--- `lines::rows` meets its contract. Of the page so far the invariant says what it is for: whatever puts the lines of the rows that are left
--- behind it, puts the lines of all rows behind what was there. The measure is how many are left.
+-- `lines::rows` meets its contract: the lines of the rows that are left, put behind the page so far, give all of them behind what was there.
+use mathlib.Core.Path.{◌∙◌}
 use native.Mathlib.Omega.{arith}
-use borrow.Author.Rules.{rules}
-use lib.ListN.{length-drop}
-use Rattle.load.proofs.Parts.{part_rest}
-use Rattle.line.proofs.Pages.{put_nothing, put_then}
-use Rattle.lines.proofs.Leading.{no_more, one_more}
+use Rattle.std.proofs.lemmas.Grind.{common_steps}
+use Rattle.std.specs.Iterator.Adapters.{take_source}
+use Rattle.std.specs.Slice.Iter.{chunks_exact_rest}
+use Rattle.line.proofs.Pages.{put_both, put_nothing}
+use Rattle.lines.proofs.Left.{none_left, rows_end, rows_next}
 use Rattle.lines.proofs.rows.Goals as goal
 
-pub loop-left-preserved : goal.loop-left-preserved
-loop-left-preserved c =
-    let here = c.loop-left in (
-      c.row-end.ensures.within,
-      search rules,
-      λ a e p. here.invariant.2 a e (rw (one_more _ _ _ _ _ c.loop-left-test.true) (put_then (rw part_rest at c.row-end.ensures) p)),
-    )
+pub loop-words-preserved : goal.loop-words-preserved
+loop-words-preserved c =
+    let step = c.in-Some.ensures.steps in
+    let before = c.loop-words.invariant in
+    let more = chunks_exact_rest (take_source c.next.new.self) in
+    let next = rows_next c.args.file.now c.args.stages c.in-Some.words.now more c.row_at.result (step.0.1.1 ∙ before.in_rows) c.row_at.ensures _ _ step.1 in
+    record {
+      in_rows = step.0.0 ∙ before.in_rows;
+      room = grind (arith, common_steps);
+      lines = rw (c.row.ensures, put_both, ← next) (rw step.0.1.0 at before.lines);
+    }
 
 pub returns : goal.returns
 returns c =
-    let here = c.loop-left in
-    here.invariant.2 _ _ (rw (no_more _ _ _ _ _ c.loop-left-test.false) (put_nothing here.invariant.0))
-
-pub loop-left-init : goal.loop-left-init
-loop-left-init c = (search rules, search rules, λ a e p. p)
-
-pub row-end-requires : goal.row-end-requires
-row-end-requires c = rw part_rest (simp length-drop (omega arith))
+    let before = c.loop-words.invariant in
+    let none = none_left _ _ _ before.in_rows before.room (λ some. (c.in-None.ensures.steps some).1.0) in
+    put_nothing _ ∙ rw (rows_end c.args.file.now c.args.stages _ _ none) at before.lines

@@ -1,15 +1,20 @@
--- `lines::rows` meets its contract. Of the page so far the invariant says what it is for: whatever puts the lines of the rows that are left
--- behind it, puts the lines of all rows behind what was there. The measure is how many are left.
-use Prim.Native.Nat.{◌+◌, ◌*◌, ◌≤◌}
+-- `lines::rows` meets its contract: the lines of the rows that are left, put behind the page so far, give all of them behind what was there.
+use Prim.Native.Nat.{ℕ, ◌*◌, ◌≤◌}
+use mathlib.Core.Path.{◌≡◌}
 use lib.ListN.{length}
+use Rattle.std.specs.Iterator.Adapters.{take_count, take_source}
+use Rattle.std.specs.Slice.Iter.{chunks_exact_rest, chunks_exact_size}
 use Rattle.rules.specs.Rows.{rows_in}
-use Rattle.line.specs.Pages.{room}
+use Rattle.line.specs.Pages.{page_with}
 use Rattle.lines.specs.Lines.{row_lines}
-use Rattle.lines.proofs.Leading.{Leads, lines_from}
 use Rattle.lines.proofs.rows.Given as goal
 
-abbrev pub invariant-loop-left : goal.invariant-loop-left
-invariant-loop-left l = (l.end ≤ room) × (l.from + 15 * l.left ≤ length l.table) × Leads l.initial.out l.at (row_lines l.file l.stages (rows_in l.blocks l.table)) l.out l.end (lines_from l.file l.stages l.table l.from l.left)
-
-abbrev pub decreases-loop-left : goal.decreases-loop-left
-decreases-loop-left l = l.left
+abbrev pub invariant-loop-words : goal.invariant-loop-words
+invariant-loop-words l =
+    let words = chunks_exact_rest (take_source l.words-iterator) in
+    let left : ℕ = take_count l.words-iterator in
+    record {
+      in_rows : chunks_exact_size (take_source l.words-iterator) ≡ 15;
+      room : 15 * left ≤ length words;
+      lines : page_with l.page (row_lines l.file l.stages (rows_in left words)) ≡ page_with l.initial.page (row_lines l.file l.stages (rows_in l.blocks l.table));
+    }

@@ -1,5 +1,5 @@
 -- A tenth of a number that is not below ten is less.
-use Rattle.line.proofs.+decimal.Given as goal
+use Rattle.line.proofs.Page.+decimal.Given as goal
 
 abbrev pub decreases-decimal : goal.decreases-decimal
 decreases-decimal l = l.n
