@@ -1,14 +1,13 @@
 -- What an accepted test says of the numbers tested.
-use Prim.Native.Nat.{ℕ, zero, suc, ◌+◌, ◌≤◌, ◌<◌}
-use mathlib.Core.Bool.{true, false, true≢false}
-use mathlib.Core.Path.{◌≡◌, refl, sym, ◌∙◌}
+use Prim.Native.Nat.{ℕ, ◌+◌, ◌≤◌, ◌<◌}
+use mathlib.Core.Bool.{false}
+use mathlib.Core.Path.{◌≡◌}
 use native.Mathlib.Omega.{arith}
 use borrow.Author.Tests.{ltb-false, ltb-true, not-false}
-use lib.Dec.{ltb}
 use Rattle.std.specs.Prelude.{Ok}
 use Rattle.load.specs.declared.block.Block.{Block}
 use Rattle.load.specs.declared.counts.Counts.{Counts}
-use Rattle.load.proofs.Cases.{by_tests, cases, given_accepted, or_false}
+use Rattle.load.proofs.Cases.{given_accepted, or_false}
 use Rattle.load.proofs.Stages.{four_cases, time_at}
 use Rattle.load.specs.Refusals.{given}
 use Rattle.limits.specs.Tests.{is_all_zero, block_verdict, counts_verdict, is_over_limit, is_time_over}
