@@ -19,13 +19,13 @@ use Rattle.records.specs.Records.{Parsed, Walk, refused, parsed, stop_if, unless
 -- what a chain of tests that lets a record pass says of each test
 stop_passed : (b : Bool) (r : Refusal) (w : Walk) (at : ℕ) → stop_if b r w ≡ Ok at → (b ≡ false) × (w ≡ Ok at)
 unfolding stop_if
-stop_passed true r w at e = let z : ◌≡◌ {A = ℕ} 0 1 = cc in absurd (omega arith)
+stop_passed true r w at e = grind arith
 stop_passed false r w at e = (refl, e)
 
 pub unless_passed : {A : Type 0} (v : Verdict) (p : Parsed A) (a : A) (at : ℕ) → unless v p ≡ parsed a at → (v ≡ Ok tt) × (p ≡ parsed a at)
 unfolding unless
 unless_passed (Ok _) p a at e = (refl, e)
-unless_passed (Err r) p a at e = let z : ◌≡◌ {A = ℕ} 0 1 = cc in absurd (omega arith)
+unless_passed (Err r) p a at e = grind arith
 
 -- a record that is measured has its length byte, between the bounds, and lies within the bytes given
 pub measure_within : (least most : ℕ) (rest : List ℕ) (next : ℕ) → measure least most rest ≡ Ok next → (least < next) × (next ≤ most + 1) × (next ≤ length rest)
@@ -45,7 +45,7 @@ pub flow_record_reads : (rest : List ℕ) (size : ℕ) → flow_record rest ≡ 
 unfolding flow_record flow_measured
 flow_record_reads rest size e = go (measure 0 31 rest) e where
   go : (w : Walk) → flow_measured rest w ≡ Ok size → w ≡ Ok size
-  go (Err r) e = let z : ◌≡◌ {A = ℕ} 0 1 = cc in absurd (omega arith)
+  go (Err r) e = grind arith
   go (Ok next) e = (stop_passed _ _ _ _ e).1
 
 -- a block record that is read has this size, lies within the bytes given, and holds the block that its bytes say
@@ -54,7 +54,7 @@ pub block_record_reads : (c : Counts) (above : ℕ) (rest : List ℕ) (b : Block
 unfolding block_record block_measured
 block_record_reads c above rest b size e = go (measure (6 + 4 * c.stages) (6 + 4 * c.stages) rest) refl e where
   go : (w : Walk) → measure (6 + 4 * c.stages) (6 + 4 * c.stages) rest ≡ w → block_measured c above rest w ≡ parsed b size → (size ≡ 7 + 4 * c.stages) × (size ≤ length rest) × (b ≡ block_in c.stages rest)
-  go (Err r) m e = let z : ◌≡◌ {A = ℕ} 0 1 = cc in absurd (omega arith)
+  go (Err r) m e = grind arith
   go (Ok next) m e =
       let read : parsed (block_in c.stages rest) next ≡ parsed b size = (unless_passed _ _ _ _ e).1 in
       let same : next ≡ size = cc in
@@ -65,7 +65,7 @@ pub block_found_reads : (c : Counts) (above : ℕ) (rest : List ℕ) (b : Block)
 unfolding block_found
 block_found_reads c above rest b e = go (block_record c above rest) refl e where
   go : (p : Parsed Block) → block_record c above rest ≡ p → block_found p ≡ Ok b → p ≡ parsed b (7 + 4 * c.stages)
-  go (refused q) m e = let z : ◌≡◌ {A = ℕ} 0 1 = cc in absurd (omega arith)
+  go (refused q) m e = grind arith
   go (parsed b' size) m e =
       let read = block_record_reads c above rest b' size m in
       let long : size ≡ 7 + 4 * c.stages = read.0 in
