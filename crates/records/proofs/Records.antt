@@ -32,23 +32,15 @@ flow_record_reads rest size e = go (measure 0 31 rest) e where
 -- a block record that is read has this size, lies within the bytes given, and holds the block that its bytes say
 pub block_record_reads : (c : Counts) (above : ℕ) (rest : List ℕ) (b : Block) (size : ℕ) → block_record c above rest ≡ parsed b size
     → (size ≡ 7 + 4 * c.stages) × (size ≤ length rest) × (b ≡ block_in c.stages rest)
-unfolding block_record block_measured
+unfolding block_record block_measured unless
 block_record_reads c above rest b size e = go (measure (6 + 4 * c.stages) (6 + 4 * c.stages) rest) refl e where
   go : (w : Walk) → measure (6 + 4 * c.stages) (6 + 4 * c.stages) rest ≡ w → block_measured c above rest w ≡ parsed b size → (size ≡ 7 + 4 * c.stages) × (size ≤ length rest) × (b ≡ block_in c.stages rest)
   go (Err r) m e = grind arith
-  go (Ok next) m e =
-      let read : parsed (block_in c.stages rest) next ≡ parsed b size = (unless_passed _ _ _ _ e).1 in
-      let same : next ≡ size = cc in
-      let within = measure_within _ _ _ _ m in
-      (omega arith, omega arith, cc)
+  go (Ok next) m e = grind (arith, measure_within)
 
 pub block_found_reads : (c : Counts) (above : ℕ) (rest : List ℕ) (b : Block) → block_found (block_record c above rest) ≡ Ok b → block_record c above rest ≡ parsed b (7 + 4 * c.stages)
 unfolding block_found
 block_found_reads c above rest b e = go (block_record c above rest) refl e where
   go : (p : Parsed Block) → block_record c above rest ≡ p → block_found p ≡ Ok b → p ≡ parsed b (7 + 4 * c.stages)
   go (refused q) m e = grind arith
-  go (parsed b' size) m e =
-      let read = block_record_reads c above rest b' size m in
-      let long : size ≡ 7 + 4 * c.stages = read.0 in
-      let same : b' ≡ b = cc in
-      cc
+  go (parsed b' size) m e = grind (arith, block_record_reads)
