@@ -24,11 +24,11 @@ pub flows_read : (s : List ℕ) (k at end : ℕ) (names : List Part) → flow_re
 unfolding flow_records past onto
 flows_read s k at end names e = go (flow_record (drop at s)) refl e where
   rest : (size : ℕ) → flow_record (drop at s) ≡ Ok size → (q : Parsed (List Part)) → flow_records s k (at + size) ≡ q → onto (name_in at size) q ≡ parsed names end → FlowsRead s k at end names
-  rest size m (refused r) n e = absurd (cc)
+  rest size m (refused r) n e = absurd cc
   rest size m (parsed others last) n e = record { others = others; size = size; first = m; rest = cc; all = cc }
 
   go : (w : Walk) → flow_record (drop at s) ≡ w → past w (λ size. onto (name_in at size) (flow_records s k (at + size))) ≡ parsed names end → FlowsRead s k at end names
-  go (Err r) m e = absurd (cc)
+  go (Err r) m e = absurd cc
   go (Ok size) m e = rest size m (flow_records s k (at + size)) refl e
 
 pub own_name : (s : List ℕ) (count at end : ℕ) (names : List Part) → flow_records s count at ≡ parsed names end

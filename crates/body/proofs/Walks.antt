@@ -20,7 +20,7 @@ walk_onto a (parsed as' at) = refl
 
 pub list_onto : {A : Type 0} (a : A) (p : Parsed (List A)) (at : ℕ) → walk_of p ≡ Ok at → list_of (onto a p) ≡ a ∷ list_of p
 unfolding onto walk_of list_of
-list_onto a (refused r) at e = absurd (cc)
+list_onto a (refused r) at e = absurd cc
 list_onto a (parsed as' next) at e = refl
 
 module _ (s : List ℕ) (at : ℕ) where
@@ -52,7 +52,7 @@ module _ (s : List ℕ) (c : Counts) (above at : ℕ) where
   blocks_stop (suc k) r h e = go (block_record c above (drop at s)) e where
     go : (p : Parsed Block) → block_found p ≡ Err r → walk_of (after p (λ b size. onto b (block_records s c b.arrival k (at + size)))) ≡ Err r
     go (refused q) e = cc
-    go (parsed b size) e = absurd (cc)
+    go (parsed b size) e = absurd cc
 
   -- a block record that is read is the bytes' block, and the walk goes on after it
   pub blocks_next : (left next : ℕ) (b : Block) (size : ℕ) → left ≡ next + 1 → block_record c above (drop at s) ≡ parsed b size
@@ -80,7 +80,7 @@ blocks_sound s c above left at end h e = go (block_record c above (drop at s)) r
   go : (p : Parsed Block) → block_record c above (drop at s) ≡ p → p ≡ parsed (block_in c.stages (drop at s)) (7 + 4 * c.stages)
   go (refused r) m =
       let stop : walk_of (block_records s c above left at) ≡ Err r = blocks_stop s c above at left r h (rw m refl) in
-      absurd (cc)
+      absurd cc
   go (parsed b size) m =
       let read = block_record_reads c above (drop at s) b size m in
       let same : size ≡ 7 + 4 * c.stages = read.0 in
@@ -97,6 +97,6 @@ flows_within s (suc k) at end h e = go (flow_record (drop at s)) refl (λ size. 
   go : (w : Walk) → flow_record (drop at s) ≡ w → ((size : ℕ) → at + size ≤ length s → walk_of (flow_records s k (at + size)) ≡ Ok end → end ≤ length s) → end ≤ length s
   go (Err r) m later =
       let stop : walk_of (flow_records s (suc k) at) ≡ Err r = flows_stop s at (suc k) r (omega arith) m in
-      absurd (cc)
+      absurd cc
   go (Ok size) m later =
       later size (flow_within s at size m h) (sym (flows_next s at (suc k) k size (omega arith) m) ∙ e)

@@ -15,14 +15,7 @@ pub fn fill(file: &[u8], counts: Counts, from: usize, table: &mut [u32])
         ≡ table_words (list_of (block_records file.now counts 0 counts.blocks from)) ++ drop (6 * counts.blocks) table.old }
 {
     let size = 7 + 4 * counts.stages;
-    let mut at = from;
-    let mut to = 0;
-    let mut left = counts.blocks;
-    while 0 < left {
-        let block = record::fields(&file[at..], counts.stages);
-        block.put(&mut table[to..]);
-        at += size;
-        to += 6;
-        left -= 1;
+    for (place, record) in file[from..].chunks_exact(size).enumerate() {
+        record::fields(record, counts.stages).put(&mut table[6 * place..]);
     }
 }

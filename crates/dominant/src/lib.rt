@@ -1,30 +1,19 @@
 // The dominant time and stage of a block.
 #![tactic(auto)]
 
-ghost use Rattle.std.specs.Prelude.{cond, ◌≡◌, max, leb};
+ghost use Rattle.std.specs.Prelude.{◌≡◌};
 ghost use Rattle.dominant.specs.Dominant.{dominant_time, dominant_stage};
 
 use load::block::Block;
 
-// A time, and the stage that has it.
-#[derive(Clone, Copy)]
+// A time, and the stage that has it. The greater peak has the greater time, and of equal times the later stage.
+#[derive(Clone, Copy, Debug, PartialEq, Eq, PartialOrd, Ord)]
 pub struct Peak {
     pub time: u32,
     pub stage: u32,
 }
 
-// The greater of a peak and a later stage's time; of equals the later stage's.
-fn higher(peak: Peak, time: u32, stage: u32) -> Peak
-    ensures { (result.time ≡ max peak.time time) × (result.stage ≡ cond (leb peak.time time) stage peak.stage) }
-{
-    if peak.time <= time {
-        Peak { time, stage }
-    } else {
-        peak
-    }
-}
-
-// The largest stage time, and the highest numbered stage that has it. Both come of one pass over the times.
+// The largest stage time, and the highest numbered stage that has it.
 pub fn highest(block: Block) -> Peak
     ensures { (result.time ≡ dominant_time block) × (result.stage ≡ dominant_stage block) }
 {
@@ -32,7 +21,17 @@ pub fn highest(block: Block) -> Peak
         time: block.time1,
         stage: 1,
     };
-    let second = higher(first, block.time2, 2);
-    let third = higher(second, block.time3, 3);
-    higher(third, block.time4, 4)
+    let second = Peak {
+        time: block.time2,
+        stage: 2,
+    };
+    let third = Peak {
+        time: block.time3,
+        stage: 3,
+    };
+    let fourth = Peak {
+        time: block.time4,
+        stage: 4,
+    };
+    first.max(second).max(third).max(fourth)
 }

@@ -2,12 +2,13 @@
 use mathlib.Core.List.{List}
 use mathlib.Core.Path.{◌≡◌, sym, ap, ◌∙◌}
 use Prim.Native.Nat.{ℕ}
+use Rattle.std.specs.Prelude.{Result}
 use Rattle.load.specs.declared.counts.Counts.{Counts}
+use Rattle.load.specs.declared.refusal.Refusal.{Refusal}
 use Rattle.load.proofs.Once.{OneAnswer, OneExit}
-use Rattle.loadfile.specs.declared.Answer.{Answer}
 use Rattle.loadfile.specs.Calls.{answer_counts}
 use Rattle.loadfile.specs.Calls as reader
-use Rattle.rules.specs.declared.answer.Planned.{Planned}
+use Rattle.rules.specs.declared.answer.Summary.{Summary}
 use Rattle.rules.specs.declared.record.FlowRecord.{FlowRecord}
 use Rattle.rules.specs.Calls.{answer_summary}
 use Rattle.rules.specs.Calls as planner
@@ -37,7 +38,7 @@ read_table_once κs a r r' s s' p q = p.reads.leaves ∙ sym q.reads.leaves
 
 pub read_counts_once : OneExit read.Post (λ κs s. s.1.1.0.now)
 read_counts_once κs a r r' s s' p q =
-    p.counts ∙ ap (λ (x : Answer). count_words (answer_counts x)) (same_read _ _ _ _ _ _ _ _ p q) ∙ sym q.counts
+    p.counts ∙ ap (λ (x : Result Counts Refusal). count_words (answer_counts x)) (same_read _ _ _ _ _ _ _ _ p q) ∙ sym q.counts
 
 pub name_once : OneAnswer name.Post
 name_once κs a r r' s s' p q = p.measures ∙ sym q.measures
@@ -57,4 +58,4 @@ plan_rows_once κs a r r' s s' p q = p.plans.rows_left ∙ sym q.plans.rows_left
 
 pub plan_counts_once : OneExit plan.Post (λ κs s. s.1.1.1.1.1.1.1.0.now)
 plan_counts_once κs a r r' s s' p q =
-    p.counts ∙ ap (λ (x : Planned). summary_words (answer_summary x)) (same_plan _ _ _ _ _ _ _ _ _ _ _ _ _ p q) ∙ sym q.counts
+    p.counts ∙ ap (λ (x : Result Summary Refusal). summary_words (answer_summary x)) (same_plan _ _ _ _ _ _ _ _ _ _ _ _ _ p q) ∙ sym q.counts

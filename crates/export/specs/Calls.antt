@@ -1,10 +1,10 @@
 -- What the exported calls answer, for all arguments: the answers that the crates define, as a number and words.
-use Rattle.std.specs.Prelude.{ℕ, ◌≡◌, cond, List, ◌++◌, ltb, length, drop}
+use Rattle.std.specs.Prelude.{ℕ, ◌≡◌, cond, List, ◌++◌, ltb, length, drop, Result}
 use Rattle.load.specs.declared.counts.Counts.{Counts}
-use Rattle.loadfile.specs.declared.Answer.{Answer}
+use Rattle.load.specs.declared.refusal.Refusal.{Refusal}
 use Rattle.loadfile.specs.Calls.{Reads, answer_counts, shown_name}
 use Rattle.loadfile.specs.Calls as reader
-use Rattle.rules.specs.declared.answer.Planned.{Planned}
+use Rattle.rules.specs.declared.answer.Summary.{Summary}
 use Rattle.rules.specs.declared.record.FlowRecord.{FlowRecord}
 use Rattle.rules.specs.Calls.{Plans, answer_summary}
 use Rattle.rules.specs.Calls as planner
@@ -12,7 +12,7 @@ use Rattle.words.specs.Words.{count_words, summary_words}
 
 -- The reader's answer, as a number and three words, and the table as the reader leaves it.
 pub record ReadsInWords (file table : List ℕ) (number : ℕ) (tableThen countsThen : List ℕ) : Type 0 where
-  pub answer : Answer
+  pub answer : Result Counts Refusal
   pub reads : Reads file table answer tableThen
   pub numbers : number ≡ reader.answer_number answer
   pub counts : countsThen ≡ count_words (answer_counts answer)
@@ -28,7 +28,7 @@ pub record Names (file standing : List ℕ) (flow : ℕ) (room : List ℕ) (size
 
 -- The plan call's answer, as a number and six words, and the tables as the plan call leaves them.
 pub record PlansInWords (c : Counts) (n : ℕ) (table : List ℕ) (flows : List FlowRecord) (rows : List ℕ) (number : ℕ) (flowsThen : List FlowRecord) (rowsThen countsThen : List ℕ) : Type 0 where
-  pub answer : Planned
+  pub answer : Result Summary Refusal
   pub plans : Plans c n table flows rows answer flowsThen rowsThen
   pub numbers : number ≡ planner.answer_number answer
   pub counts : countsThen ≡ summary_words (answer_summary answer)

@@ -24,11 +24,12 @@ pub extern "C" fn xarbulest_sound(file: &[u8]) -> u64
 pub extern "C" fn xarbulest_read(file: &[u8], table: &mut [u32], counts: &mut [u64; 3]) -> u64
     ensures { ReadsInWords file.now table.old result table.new counts.new }
 {
-    words::put_read(loadfile::read(file, table), counts)
+    words::put(loadfile::read(file, table), counts)
 }
 
 // The name call: the length of the name that is shown for a flow. The name is copied into the room, since a part of a slice
 // cannot be handed back; a name that is longer than the room leaves it as it was.
+#[tactic(auto, using(crate::proofs::Copied::name_copied, crate::proofs::Copied::name_too_long))]
 #[unsafe(no_mangle)]
 pub extern "C" fn xarbulest_name<'a>(
     file: &'a [u8],
@@ -47,6 +48,7 @@ pub extern "C" fn xarbulest_name<'a>(
 }
 
 // The plan call: the number, and in `counts` blocks listed, turns, rounds, turns held, held ticks and the end.
+#[tactic(auto, using(words::proofs::Said::put_plan))]
 #[unsafe(no_mangle)]
 pub extern "C" fn xarbulest_plan(
     stages: usize,
@@ -66,5 +68,5 @@ pub extern "C" fn xarbulest_plan(
         flows,
         blocks,
     };
-    words::put_plan(mr3::plan(asked, limit, table, records, rows), counts)
+    words::put(mr3::plan(asked, limit, table, records, rows), counts)
 }

@@ -33,7 +33,7 @@ module _ (c : Counts) (s : List ℕ) where
   unfolding body_walk body_blocks body_end records after walk_of whole unless given stop_if
   body_refuses r e = flows (flow_records s c.flows 10) e where
     ended : (l : Contents) (from end : ℕ) (same : Bool) → stop_if (not same) Record (Ok from) ≡ Err r → unless (given (not same) Record (Ok tt)) (parsed l end) ≡ refused r
-    ended l from end true e = absurd (cc)
+    ended l from end true e = absurd cc
     ended l from end false e = cc
 
     blocks : (names : List Part) (from : ℕ) (q : Parsed (List Block)) → body_end s from (walk_of q) ≡ Err r → after q (to_end names) ≡ refused r
@@ -56,7 +56,7 @@ module _ (c : Counts) (s : List ℕ) where
   unfolding body_walk body_blocks body_end records after walk_of whole unless given stop_if
   body_reads from e = flows (flow_records s c.flows 10) refl e where
     blocks : (names : List Part) (start : ℕ) → flow_records s c.flows 10 ≡ parsed names start → (q : Parsed (List Block)) → block_records s c 0 c.blocks start ≡ q → body_end s start (walk_of q) ≡ Ok from → Sound from
-    blocks names start p (refused r) m e = absurd (cc)
+    blocks names start p (refused r) m e = absurd cc
     blocks names start p (parsed bs end) m e = ended (eqb end (length s)) refl e where
       ended : (same : Bool) → eqb end (length s) ≡ same → stop_if (not same) Record (Ok start) ≡ Ok from → Sound from
       ended true t e =
@@ -69,8 +69,8 @@ module _ (c : Counts) (s : List ℕ) where
             blocks_read = rw (← place, ← all) m;
             reads = rw (p, m, t, all) refl;
           }
-      ended false t e = absurd (cc)
+      ended false t e = absurd cc
 
     flows : (p : Parsed (List Part)) → flow_records s c.flows 10 ≡ p → body_blocks c s (walk_of p) ≡ Ok from → Sound from
-    flows (refused r) m e = absurd (cc)
+    flows (refused r) m e = absurd cc
     flows (parsed names start) m e = blocks names start m (block_records s c 0 c.blocks start) refl e

@@ -34,12 +34,12 @@ record Steps {A B : Type 0} (p : Parsed A) (next : A → ℕ → Parsed B) (b : 
 
 after_reads : {A B : Type 0} (p : Parsed A) (next : A → ℕ → Parsed B) (b : B) (end : ℕ) → after p next ≡ parsed b end → Steps p next b end
 unfolding after
-after_reads (refused r) next b end e = absurd (cc)
+after_reads (refused r) next b end e = absurd cc
 after_reads (parsed a at) next b end e = record { value = a; at = at; first = refl; then = e }
 
 onto_reads : {A : Type 0} (a : A) (p : Parsed (List A)) (list : List A) (end : ℕ) → onto a p ≡ parsed list end → (rest : List A) × (p ≡ parsed rest end) × (list ≡ a ∷ rest)
 unfolding onto
-onto_reads a (refused r) list end e = absurd (cc)
+onto_reads a (refused r) list end e = absurd cc
 onto_reads a (parsed rest at) list end e = (rest, cc, cc)
 
 -- a block that is read passed its tests
@@ -47,7 +47,7 @@ pub block_passed : (c : Counts) (above : ℕ) (rest : List ℕ) (b : Block) (siz
 unfolding block_record block_measured
 block_passed c above rest b size e = go (measure (6 + 4 * c.stages) (6 + 4 * c.stages) rest) e where
   go : (w : Walk) → block_measured c above rest w ≡ parsed b size → block_verdict c above b ≡ Ok tt
-  go (Err r) e = absurd (cc)
+  go (Err r) e = absurd cc
   go (Ok next) e = let passed = unless_passed _ _ _ _ e in cc
 
 -- the first of the blocks that are read, and the others below it

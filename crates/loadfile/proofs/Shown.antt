@@ -6,7 +6,7 @@ use mathlib.Core.Path.{◌≡◌, refl, ◌∙◌}
 use borrow.Author.Tests.{lt-ltb, le-ltb}
 use denote.Ref.{Bor}
 use lib.ListN.{length}
-use Rattle.std.specs.Prelude.{Ok, Err}
+use Rattle.std.specs.Prelude.{false, Ok, Err, is_err}
 use Rattle.load.specs.declared.counts.Counts.{Counts}
 use Rattle.load.specs.declared.refusal.Refusal.{Refusal}
 use Rattle.records.specs.Answers.{verdict_of}
@@ -14,6 +14,7 @@ use Rattle.records.specs.Standing.{entry}
 use Rattle.load.specs.Refusals.{Verdict}
 use Rattle.records.specs.Records.{Parsed, Walk, refused, parsed, flow_records}
 use Rattle.records.specs.Parts.{empty, IsPart, Part}
+use Rattle.header.proofs.Accepted.{header_good}
 use Rattle.header.specs.Header.{counts_in, header_verdict}
 use Rattle.body.specs.Body.{body_walk, own_name_of}
 use Rattle.body.proofs.Names.{own_name}
@@ -28,7 +29,7 @@ unfolding soundness verdict_of shown_part shown_of
 shown_unsound file standing flow r e = go (contents file) e where
   go : (p : Parsed Contents) → verdict_of p ≡ Err r → shown_of p standing flow ≡ of_standing empty
   go (refused q) e = refl
-  go (parsed l at) e = absurd (cc)
+  go (parsed l at) e = absurd cc
 
 -- a sound file has a good header
 pub sound_header : (file : List ℕ) → soundness file ≡ Ok tt → header_verdict file ≡ Ok tt
@@ -38,7 +39,17 @@ sound_header file e = go (header_verdict file) refl where
   go (Ok tt) h = refl
   go (Err r) h =
       let same : contents file ≡ refused r = contents_refused file r h in
-      absurd (cc)
+      absurd cc
+
+-- a file is sound where the verdict is no refusal, and then its header is there whole
+pub not_refused : (file : List ℕ) → is_err (soundness file) ≡ false → soundness file ≡ Ok tt
+not_refused file e = go (soundness file) e where
+  go : (v : Verdict) → is_err v ≡ false → v ≡ Ok tt
+  go (Ok tt) e = refl
+  go (Err r) e = absurd cc
+
+pub sound_long : (file : List ℕ) → is_err (soundness file) ≡ false → 10 ≤ length file
+sound_long file e = (header_good file (sound_header file (not_refused file e))).long
 
 -- what a sound file holds, and the walk over its flow records
 pub record Held (file : List ℕ) : Type 0 where
@@ -55,7 +66,7 @@ sound_holds file e = go (body_walk (counts_in file) file) refl (contents_records
   go : (w : Walk) → body_walk (counts_in file) file ≡ w → contents file ≡ records (counts_in file) file → Held file
   go (Err r) m here =
       let same : contents file ≡ refused r = here ∙ body_refuses (counts_in file) file r m in
-      absurd (cc)
+      absurd cc
   go (Ok from) m here =
       let sound = body_reads (counts_in file) file from m in
       record {

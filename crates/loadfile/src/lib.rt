@@ -11,6 +11,7 @@ use load::refusal::Refusal;
 use records::standing;
 
 // The soundness call.
+#[tactic(auto, using(header::proofs::Accepted::header_good, crate::proofs::Files::contents_refused, crate::proofs::Files::contents_records, crate::proofs::Body::body_refuses), unfolding(crate::specs::Calls::soundness, records::specs::Answers::verdict_of))]
 pub fn sound(file: &[u8]) -> Result<(), Refusal>
     ensures { result ≡ soundness file.now }
 {
@@ -20,6 +21,7 @@ pub fn sound(file: &[u8]) -> Result<(), Refusal>
 }
 
 // The reader: tests everything, and only then writes the block table.
+#[tactic(auto, using(header::proofs::Accepted::header_good, crate::proofs::Files::reading_refused, crate::proofs::Files::reading_short, crate::proofs::Files::reads_refused))]
 pub fn read(file: &[u8], table: &mut [u32]) -> Result<Counts, Refusal>
     ensures { Reads file.now table.old result table.new }
 {
@@ -34,6 +36,7 @@ pub fn read(file: &[u8], table: &mut [u32]) -> Result<Counts, Refusal>
 }
 
 // The name call: the part of the file or of the standing list that is shown for a flow.
+#[tactic(auto, using(crate::proofs::Shown::sound_long))]
 pub fn name<'a>(file: &'a [u8], standing: &'a [u8], flow: usize) -> &'a [u8]
     ensures { Shows file.entry standing.entry flow result }
 {

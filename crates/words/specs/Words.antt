@@ -1,6 +1,8 @@
 -- The words of lent counts, in document 01's order.
-use Rattle.std.specs.Prelude.{ℕ, List, [], ◌∷◌}
+use Rattle.std.specs.Prelude.{ℕ, List, [], ◌∷◌, replicate, Result, Ok, Err}
 use Rattle.load.specs.declared.counts.Counts.{Counts}
+use Rattle.load.specs.declared.refusal.Refusal.{Refusal}
+use Rattle.load.specs.Refusals.{number_of}
 use Rattle.rules.specs.declared.answer.Summary.{Summary}
 
 abbrev pub count_words : Counts → List ℕ
@@ -8,3 +10,14 @@ count_words c = c.stages ∷ c.flows ∷ c.blocks ∷ []
 
 abbrev pub summary_words : Summary → List ℕ
 summary_words s = s.blocks ∷ s.turns ∷ s.rounds ∷ s.held ∷ s.ticks ∷ s.end ∷ []
+
+module _ {A : Type 0} where
+  -- An accepted call gives number 0.
+  abbrev pub number_in : Result A Refusal → ℕ
+  number_in (Ok a) = 0
+  number_in (Err r) = number_of r
+
+  -- A refusal counts nothing, in n words.
+  abbrev pub words_in : (A → List ℕ) → ℕ → Result A Refusal → List ℕ
+  words_in f n (Ok a) = f a
+  words_in f n (Err r) = replicate n 0

@@ -1,43 +1,59 @@
-// An answer as document 01's number, with its counts written into lent words. A refusal has counts of 0.
+// An answer as document 01's number, with what it counts written into lent words. A refusal counts nothing.
 #![tactic(auto)]
 
-ghost use Rattle.std.specs.Prelude.{◌≡◌};
-ghost use Rattle.loadfile.specs.Calls.{answer_counts, answer_number as readNumber};
-ghost use Rattle.rules.specs.Calls.{answer_number as planNumber, answer_summary};
-ghost use Rattle.words.specs.Words.{count_words, summary_words};
+ghost use Rattle.std.specs.Prelude.{◌≡◌, ℕ, List};
+ghost use Rattle.words.specs.Words.{count_words, number_in, summary_words, words_in};
 
-use load::refusal::Verdict;
-use loadfile::Answer;
-use rules::answer::Planned;
+use load::counts::Counts;
+use load::refusal::Refusal;
+use rules::answer::Summary;
+
+// What is counted in so many words.
+pub trait InWords<const N: usize>: Copy {
+    ghost in_words: { Self → List ℕ };
+
+    fn in_words(self) -> [u64; N]
+        ensures { result ≡ in_words self };
+}
 
 // The reader's: stages, flows and blocks.
-pub fn put_read(answer: Answer, counts: &mut [u64; 3]) -> u64
-    ensures { (result ≡ readNumber answer) × (counts.new ≡ count_words (answer_counts answer)) }
-{
-    match answer {
-        Answer::Refused(why) => {
-            *counts = [0, 0, 0];
-            load::refusal::number(Verdict::Refused(why))
-        }
-        Answer::Read(found) => {
-            *counts = [found.stages as u64, found.flows as u64, found.blocks as u64];
-            0
-        }
+impl InWords<3> for Counts {
+    ghost in_words = { count_words };
+
+    fn in_words(self) -> [u64; 3] {
+        [self.stages as u64, self.flows as u64, self.blocks as u64]
     }
 }
 
 // The plan call's: blocks listed, turns, rounds, turns held, held ticks and the end.
-pub fn put_plan(answer: Planned, counts: &mut [u64; 6]) -> u64
-    ensures { (result ≡ planNumber answer) × (counts.new ≡ summary_words (answer_summary answer)) }
+impl InWords<6> for Summary {
+    ghost in_words = { summary_words };
+
+    fn in_words(self) -> [u64; 6] {
+        [
+            self.blocks,
+            self.turns,
+            self.rounds,
+            self.held,
+            self.ticks,
+            self.end,
+        ]
+    }
+}
+
+// The number of an answer; what it counts is left in the words.
+pub fn put<const N: usize, T: InWords<N>>(answer: Result<T, Refusal>, words: &mut [u64; N]) -> u64
+    ensures number { result ≡ number_in answer }
+    ensures counts { words.new ≡ words_in T.in_words N answer }
 {
     match answer {
-        Planned::Refused(why) => {
-            *counts = [0, 0, 0, 0, 0, 0];
-            load::refusal::number(Verdict::Refused(why))
-        }
-        Planned::Plan(s) => {
-            *counts = [s.blocks, s.turns, s.rounds, s.held, s.ticks, s.end];
+        Ok(counted) => {
+            *words = counted.in_words();
             0
+        }
+        Err(why) => {
+            words.fill(0);
+            why.number()
         }
     }
 }

@@ -1,37 +1,22 @@
 -- `loadfile::read` meets its contract: each refusal is the one that the layout gives first, and leaves the table; after the last test the table is filled.
 use mathlib.Core.Path.{ap, sym, ◌∙◌}
-use native.Mathlib.Omega.{arith}
 use Rattle.std.proofs.lemmas.Result.{err_from_is_err_and}
 use Rattle.records.specs.Answers.{list_of, walk_of}
 use Rattle.header.proofs.Accepted.{header_good}
 use Rattle.body.proofs.Walks.{flows_within}
 use Rattle.loadfile.proofs.Body.{body_reads, body_refuses}
-use Rattle.loadfile.proofs.Files.{reading_records, reading_refused, reading_short, reads_refused, reads_whole}
+use Rattle.loadfile.proofs.Files.{reading_records, reads_refused, reads_whole}
 use Rattle.loadfile.proofs.read.Goals as goal
 
-pub returns-in_err-test : goal.returns-in_err-test
-returns-in_err-test c =
-    let p = err_from_is_err_and c.from_residual.result c.from_residual.ensures.1 in
-    rw (p.1, p.2) (reads_refused _ _ _ (reading_refused _ _ _ (sym c.test.ensures ∙ c.in_err-test.was)))
-
-pub counts-counts-requires : goal.counts-counts-requires
-counts-counts-requires c = (header_good _ (sym c.test.ensures ∙ c.in_ok-test.was)).long
-
-pub overflow_mul-counts : goal.overflow_mul-counts
-overflow_mul-counts c =
-    let good = header_good _ (sym c.test.ensures ∙ c.in_ok-test.was) in
-    let blocks = rw (← c.counts-counts.ensures) at good.within.blocks_within in
-    omega arith
-
-pub returns-then-table-counts : goal.returns-then-table-counts
-returns-then-table-counts c =
+pub returns-in_err-from : goal.returns-in_err-from
+returns-in_err-from c =
     let header = sym c.test.ensures ∙ c.in_ok-test.was in
-    reads_refused _ _ _ (reading_short _ _ _ c.counts-counts.ensures header c.if-table-counts.true)
-
-pub body-requires : goal.body-requires
-body-requires c =
-    let good = header_good _ (sym c.test.ensures ∙ c.in_ok-test.was) in
-    (rw c.counts-counts.ensures good.within.stages_within, good.long)
+    let walk = sym c.body.ensures ∙ c.in_err-from.was in
+    let p = err_from_is_err_and c.from_residual-in_err-from.result c.from_residual-in_err-from.ensures.1 in
+    rw (p.1, p.2)
+    (reads_refused _ _ _
+    (reading_records _ _ _ c.counts-counts.ensures header c.if-table-counts.false
+    ∙ body_refuses _ _ _ walk))
 
 pub fill-requires : goal.fill-requires
 unfolding walk_of
@@ -46,16 +31,6 @@ fill-requires c =
       );
       sound = ap walk_of sound.blocks_read;
     }
-
-pub returns-in_err-from : goal.returns-in_err-from
-returns-in_err-from c =
-    let header = sym c.test.ensures ∙ c.in_ok-test.was in
-    let walk = sym c.body.ensures ∙ c.in_err-from.was in
-    let p = err_from_is_err_and c.from_residual-in_err-from.result c.from_residual-in_err-from.ensures.1 in
-    rw (p.1, p.2)
-    (reads_refused _ _ _
-    (reading_records _ _ _ c.counts-counts.ensures header c.if-table-counts.false
-    ∙ body_refuses _ _ _ walk))
 
 pub returns : goal.returns
 unfolding list_of
