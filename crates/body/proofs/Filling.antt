@@ -3,8 +3,6 @@ use Prim.Native.Nat.{ℕ, zero, suc, ◌+◌, ◌-◌, ◌*◌, ◌≤◌, ◌<�
 use mathlib.Core.List.{List, ◌++◌, append_assoc, append-nil}
 use mathlib.Core.Path.{◌≡◌, refl, sym, ap, ◌∙◌}
 use native.Mathlib.Omega.{arith}
-use borrow.Author.Tests.{ltb-false}
-use lib.Dec.{ltb}
 use lib.ListN.{length, take, drop, length-append, length-drop, take-append-drop}
 use lib.Seq.{drop_at, drop-drop}
 use Rattle.std.specs.Prelude.{Ok}
@@ -12,7 +10,6 @@ use Rattle.std.proofs.lemmas.List.{get_or_append_left}
 use Rattle.load.specs.declared.block.Block.{Block}
 use Rattle.load.specs.declared.counts.Counts.{Counts}
 use Rattle.load.specs.Blocks.{words_of}
-use Rattle.load.proofs.Cases.{cases}
 use Rattle.load.proofs.Parts.{drop_over, length_over, over, take_over}
 use Rattle.records.specs.Answers.{list_of, walk_of}
 use Rattle.records.specs.Records.{block_in, block_record, block_records, four_bytes, parsed, time_in, two_bytes}
@@ -31,10 +28,7 @@ module _ (bytes next : List ℕ) where
 
   time_in_record : (stages stage : ℕ) → length bytes ≡ 7 + 4 * stages → time_in stages stage (bytes ++ next) ≡ time_in stages stage bytes
   unfolding time_in
-  time_in_record stages stage h =
-      cases (ltb stages stage)
-      (λ lacks. rw lacks refl)
-      (λ has. let within = ltb-false stages stage has in rw (has, four_in_record (3 + 4 * stage) (omega arith)) refl)
+  time_in_record stages stage h = grind (arith, four_in_record)
 
   pub block_in_record : (stages : ℕ) → length bytes ≡ 7 + 4 * stages → block_in stages (bytes ++ next) ≡ block_in stages bytes
   unfolding block_in

@@ -39,7 +39,7 @@ fn blocks(file: &[u8], counts: Counts, from: usize) -> Result<usize, Refusal>
 }
 
 // Where the block records start in a file with a good header, if every record is sound and nothing follows.
-#[tactic(auto, using(load::proofs::Cases::by_tests, crate::proofs::Walks::flows_within), unfolding(crate::specs::Body::body_walk, crate::specs::Body::body_blocks, crate::specs::Body::body_end, records::specs::Records::stop_if))]
+#[tactic(auto, using(crate::proofs::Walks::flows_within), unfolding(crate::specs::Body::body_walk, crate::specs::Body::body_blocks, crate::specs::Body::body_end, records::specs::Records::stop_if))]
 pub fn body(file: &[u8], counts: Counts) -> Result<usize, Refusal>
     requires { (counts.stages ≤ 4) × (10 ≤ length file.now) }
     ensures { result ≡ body_walk counts file.now }

@@ -22,7 +22,7 @@ pub fn counts(file: &[u8]) -> Counts
 }
 
 // Tests 1, 2, 3 and 4.
-#[tactic(auto, using(load::proofs::Cases::by_tests), unfolding(crate::specs::Header::header_verdict, load::specs::Refusals::given))]
+#[tactic(auto, unfolding(crate::specs::Header::header_verdict, load::specs::Refusals::given))]
 pub fn test(file: &[u8]) -> Result<(), Refusal>
     ensures { result ≡ header_verdict file.now }
 {

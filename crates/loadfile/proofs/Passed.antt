@@ -12,7 +12,7 @@ use Rattle.std.specs.Prelude.{Ok, Err}
 use Rattle.load.specs.declared.block.Block.{Block}
 use Rattle.load.specs.declared.counts.Counts.{Counts}
 use Rattle.load.specs.Blocks.{words_of}
-use Rattle.load.proofs.Cases.{given_accepted}
+use Rattle.load.specs.Refusals.{given}
 use Rattle.limits.specs.Tests.{block_verdict, counts_verdict}
 use Rattle.records.specs.Standing.{entry}
 use Rattle.records.specs.Records.{Parsed, Walk, refused, parsed, after, block_measured, block_record, block_records, flow_records, measure, name_in}
@@ -82,8 +82,8 @@ names_short s (suc k) at names end e flow =
     rw r.all (both_short (name_in at r.size) r.others flow (omega arith) (names_short s k (at + r.size) r.others end r.rest))
 
 header_counts : (s : List ℕ) → header_verdict s ≡ Ok tt → counts_verdict (counts_in s) ≡ Ok tt
-unfolding header_verdict
-header_counts s e = (given_accepted _ _ _ (given_accepted _ _ _ e).1).1
+unfolding header_verdict given
+header_counts s e = grind arith
 
 -- six words for each block
 blocks_long : (s : List ℕ) (c : Counts) (above k at : ℕ) (blocks : List Block) (end : ℕ) → block_records s c above k at ≡ parsed blocks end → length (table_words blocks) ≡ 6 * k
