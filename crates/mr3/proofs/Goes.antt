@@ -36,6 +36,7 @@ use Rattle.rules.proofs.Sums.{one_most}
 use Rattle.arrivals.specs.declared.state.Planner.{Planner}
 use Rattle.arrivals.specs.State.{state_of}
 use Rattle.queues.specs.Queues.{Follows, most}
+use Rattle.start.specs.Starting.{Steps}
 use Rattle.start.specs.declared.step.Start.{Start}
 use Rattle.start.specs.Next.{Answers, past}
 use Rattle.progress.specs.declared.tally.Tally.{Tally}
@@ -184,6 +185,10 @@ module _ {c : Counts} {n : ℕ} {table : List ℕ} {fs₀ : List FlowRecord} {ws
   -- how many starts are left
   abbrev left : ℕ
   left = min n c.blocks - i
+
+  -- as long as one is left, the planner is ready for it
+  pub goes_ready : i < min n c.blocks → Steps (load_of c table) p
+  goes_ready more = record { from = g.from; follows = g.follows; starts = i; more = omega arith; reached = g.reached }
 
   -- there is a start for each that is left
   pub there_is_one : {P : Type 0} → i < min n c.blocks → (p' : Planner) → Answers (load_of c table) None p' g.from (step (load_of c table) s) → P
