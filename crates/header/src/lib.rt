@@ -26,7 +26,7 @@ pub fn counts(file: &[u8]) -> Counts
 pub fn test(file: &[u8]) -> Result<(), Refusal>
     ensures { result ≡ header_verdict file.now }
 {
-    if file.is_empty() || file[0] != 1 {
+    if file.first() != Some(&1) {
         return Err(Refusal::Version);
     }
     if file.len() < 10 || four(file, 1) as usize != file.len() - 5 {

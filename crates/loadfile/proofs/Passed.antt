@@ -15,12 +15,12 @@ use Rattle.load.specs.Blocks.{words_of}
 use Rattle.load.proofs.Cases.{given_accepted}
 use Rattle.limits.specs.Tests.{block_verdict, counts_verdict}
 use Rattle.records.specs.Standing.{entry}
-use Rattle.records.specs.Records.{Parsed, Walk, refused, parsed, after, onto, block_measured, block_record, block_records, flow_records, measure, name_in}
+use Rattle.records.specs.Records.{Parsed, Walk, refused, parsed, after, block_measured, block_record, block_records, flow_records, measure, name_in}
 use Rattle.records.specs.Parts.{Part, bytes_in, empty}
 use Rattle.records.proofs.Records.{flow_record_reads, measure_within, unless_passed}
 use Rattle.header.specs.Header.{counts_in, header_verdict}
 use Rattle.body.specs.Body.{table_words}
-use Rattle.body.proofs.Names.{flows_read}
+use Rattle.body.proofs.Names.{flows_read, onto_reads}
 use Rattle.loadfile.specs.Calls.{of_file, of_standing, contents, own_or, shown_bytes, shown_name, shown_of, shown_part}
 use Rattle.loadfile.specs.Layout.{Contents, file_with, records, whole}
 use Rattle.loadfile.proofs.Body.{held}
@@ -36,11 +36,6 @@ after_reads : {A B : Type 0} (p : Parsed A) (next : A → ℕ → Parsed B) (b :
 unfolding after
 after_reads (refused r) next b end e = absurd cc
 after_reads (parsed a at) next b end e = record { value = a; at = at; first = refl; then = e }
-
-onto_reads : {A : Type 0} (a : A) (p : Parsed (List A)) (list : List A) (end : ℕ) → onto a p ≡ parsed list end → (rest : List A) × (p ≡ parsed rest end) × (list ≡ a ∷ rest)
-unfolding onto
-onto_reads a (refused r) list end e = absurd cc
-onto_reads a (parsed rest at) list end e = (rest, cc, cc)
 
 -- a block that is read passed its tests
 pub block_passed : (c : Counts) (above : ℕ) (rest : List ℕ) (b : Block) (size : ℕ) → block_record c above rest ≡ parsed b size → block_verdict c above b ≡ Ok tt
