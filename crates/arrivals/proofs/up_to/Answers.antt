@@ -3,8 +3,9 @@ use Rattle.std.proofs.Common.{◌≤◌, ap, arith}
 use Rattle.load.specs.declared.block.Block.{Block}
 use Rattle.rules.specs.Load.{block_at}
 use Rattle.rules.proofs.Lists.{lists_more}
+use Rattle.queues.proofs.Linking.{flow_below}
 use Rattle.arrivals.proofs.Arriving.{arrivals_late, arrivals_none}
-use Rattle.arrivals.proofs.Standing.{flow_below, stands_tells}
+use Rattle.arrivals.proofs.Standing.{stands_tells}
 use Rattle.arrivals.proofs.Taking.{taking_ends, taking_next}
 use Rattle.arrivals.proofs.up_to.Goals as goal
 
