@@ -26,7 +26,7 @@ pub struct Start {
 }
 
 // The block at a place of the table starts at the clock. Its dominant time and stage are found once, and the time is handed on.
-#[tactic(auto, unfolding(rules::specs::Load::block_at, rules::specs::Plan::row_of))]
+#[tactic(auto, unfolding(rules::specs::Plan::row_of))]
 fn start_at(load: &Load<'_>, planner: &Planner, turn: Turn, hold: u64, place: usize) -> Start
     requires { (place < load.now.counts.blocks) × Timed planner.now.core }
     ensures row { (from : List ℕ) → result.row ≡ row_of (the_load load.now) (core_of planner.now from) turn hold place }
