@@ -1,9 +1,10 @@
 // The load that a plan call works on, with the proof that the call accepts it: who has such a load need not test it again.
-ghost use Rattle.std.specs.Prelude.{◌≡◌, Err, IfErr, IfOk, Ok, OnOk};
+ghost use Rattle.std.specs.Prelude.{◌≡◌, ◌<◌, Err, IfErr, IfOk, Ok, OnOk};
 ghost use Rattle.rules.specs.Calls.{plan_verdict};
-ghost use Rattle.rules.specs.Load.{load_of};
+ghost use Rattle.rules.specs.Load.{block_at, load_of};
 ghost use Rattle.rules.specs.Within.{Accepted};
 
+use load::block::Block;
 use load::counts::Counts;
 use load::refusal::Refusal;
 
@@ -13,6 +14,17 @@ pub struct Load<'a> {
     pub counts: Counts,
     pub blocks: &'a [u32],
     pub ghost accepted: { Accepted (load_of counts blocks.now) },
+}
+
+impl<'a> Load<'a> {
+    // The block at a place of the table.
+    #[tactic(auto, unfolding(rules::specs::Load::block_at))]
+    pub fn block(&self, place: usize) -> Block
+        requires { place < self.now.counts.blocks }
+        ensures { result ≡ block_at self.now.blocks.now place }
+    {
+        Block::at(&self.blocks[6 * place..])
+    }
 }
 
 // The load of a call, where every test is passed, and else the refusal that applies first.

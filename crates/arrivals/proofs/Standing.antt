@@ -48,10 +48,6 @@ module _ (L : Load) (m : Mode) (queues : Queues) where
   pub up_to_stands : Accepted L → (t : ℕ) (c : Core) → Stands L m queues c.line.next c.line.wait → Stands L m queues (up_to L m t c).line.next (up_to L m t c).line.wait
   up_to_stands ok t c s = up_to_keep L m t (λ l. Stands L m queues l.next l.wait) (λ l more. arrived_stands ok l.next l.wait more) c s.arrived s
 
--- an accepted block's flow is one of those that have a queue
-pub flow_below : (L : Load) → Accepted L → (i : ℕ) → i < L.counts.blocks → flow_at L i < most
-flow_below L ok i h = omega (arith, ok.flows, (ok.each i h).flow)
-
 -- what the arrivals ask, of a state of the plan whose places the queues follow
 pub whole_stands : (L : Load) (k : ℕ) (m : Mode) (c : Core) (queues : Queues) → Lists L.counts.flows c.line.wait → Whole L k m c → Follows L c.from queues
     → Stands L m queues c.line.next c.line.wait

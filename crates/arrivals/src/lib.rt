@@ -15,6 +15,7 @@ pub mod state;
 
 use crate::state::Planner;
 use accept::accepted::Load;
+use load::block::Block;
 use rules::entry::Entry;
 use rules::mode::Mode;
 
@@ -43,20 +44,12 @@ fn arrive(planner: &mut Planner, flow: usize)
 }
 
 // The tick at which a block arrives.
-#[tactic(auto, unfolding(rules::specs::Load::block_at, load::specs::Blocks::block_of))]
+#[tactic(auto, unfolding(rules::specs::Load::block_at))]
 pub fn arrival(blocks: &[u32], block: usize) -> u64
     requires { HasBlock blocks.now block }
     ensures { result ≡ (block_at blocks.now block).arrival }
 {
-    u64::from(blocks[6 * block + 1])
-}
-
-#[tactic(auto, unfolding(rules::specs::Load::block_at, load::specs::Blocks::block_of))]
-fn flow_of(blocks: &[u32], block: usize) -> usize
-    requires { HasBlock blocks.now block }
-    ensures { result ≡ (block_at blocks.now block).flow }
-{
-    blocks[6 * block] as usize
+    u64::from(Block::at(&blocks[6 * block..]).arrival)
 }
 
 // The clock moves to a tick, with the arrivals up to it.
@@ -65,11 +58,12 @@ pub fn up_to(load: &Load<'_>, planner: &mut Planner, tick: u64)
     ensures { CoreBecomes (up_to (the_load load.now) planner.old.mode tick) planner.old planner.new }
 {
     planner.core.clock = tick;
-    for block in planner.core.next..load.counts.blocks {
-        if tick < arrival(load.blocks, block) {
+    for place in planner.core.next..load.counts.blocks {
+        let block = load.block(place);
+        if tick < u64::from(block.arrival) {
             return;
         }
-        arrive(planner, flow_of(load.blocks, block));
-        planner.core.next = block + 1;
+        arrive(planner, block.flow as usize);
+        planner.core.next = place + 1;
     }
 }

@@ -1,27 +1,18 @@
 -- Laws of the first block of a flow from a place on: the blocks are linked from the last to the first, and a block starts.
-use Prim.Native.Nat.{ℕ, ◌+◌, ◌*◌, ◌≤◌, ◌<◌}
+use Prim.Native.Nat.{ℕ, ◌+◌, ◌≤◌, ◌<◌}
 use mathlib.Core.List.{List}
-use mathlib.Core.Path.{◌≡◌, refl, sym, ◌∙◌}
-use native.Mathlib.Nat.{add-zero}
+use mathlib.Core.Path.{◌≡◌, sym, ◌∙◌}
 use native.Mathlib.Omega.{arith}
 use lib.ListN.{get_or, length, length-set, set}
-use lib.Seq.{get_or-drop}
-use Rattle.load.specs.Blocks.{block_of}
-use Rattle.load.specs.declared.counts.Counts.{Counts}
-use Rattle.rules.specs.Load.{block_at, Load, load_of}
+use Rattle.rules.specs.Load.{block_at, Load}
 use Rattle.rules.specs.Within.{Accepted}
 use Rattle.rules.proofs.Unstarted.{set_either}
 use Rattle.queues.specs.declared.Queues.{Queues}
 use Rattle.queues.specs.Queues.{advanced, First, Follows, link_in, most, none, oldest_in}
 
--- a block's flow is the first of its six words
-pub flow_word : (table : List ℕ) (i : ℕ) → get_or table (6 * i) 0 ≡ (block_at table i).flow
-unfolding block_at block_of
-flow_word table i = rw (get_or-drop, add-zero) refl
-
--- and it has a queue
-pub flow_below : (counts : Counts) (table : List ℕ) → Accepted (load_of counts table) → (i : ℕ) → i < counts.blocks → get_or table (6 * i) 0 < most
-flow_below counts table ok i h = rw (flow_word table i) (omega (arith, (ok.each i h).flow, ok.flows))
+-- an accepted block's flow has a queue
+pub flow_below : (L : Load) → Accepted L → (i : ℕ) → i < L.counts.blocks → (block_at L.table i).flow < most
+flow_below L ok i h = omega (arith, (ok.each i h).flow, ok.flows)
 
 module _ (table : List ℕ) (n f : ℕ) where
   -- past the last block there is none

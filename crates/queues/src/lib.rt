@@ -35,10 +35,10 @@ impl Queues {
         requires { self.old ≡ unlinked }
         ensures { Follows (load_of load.now.counts load.now.blocks.now) (replicate most 0) self.new }
     {
-        for block in (0..load.counts.blocks).rev() {
-            let flow = load.blocks[6 * block] as usize;
-            self.next[block] = self.oldest[flow];
-            self.oldest[flow] = block as u32;
+        for place in (0..load.counts.blocks).rev() {
+            let flow = load.block(place).flow as usize;
+            self.next[place] = self.oldest[flow];
+            self.oldest[flow] = place as u32;
         }
     }
 

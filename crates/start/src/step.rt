@@ -6,7 +6,7 @@ ghost use Rattle.rules.specs.Load.{block_at};
 ghost use Rattle.rules.specs.Plan.{after as Plan·after, begins, begun, row_of, started, step as Plan·step, up_to};
 ghost use Rattle.accept.specs.Loads.{the_load};
 ghost use Rattle.queues.specs.Queues.{Follows, oldest_in};
-ghost use Rattle.arrivals.specs.Room.{HasBlock, StandsAt};
+ghost use Rattle.arrivals.specs.Room.{StandsAt};
 ghost use Rattle.arrivals.specs.State.{CoreBecomes, core_of, state_of};
 ghost use Rattle.start.specs.Next.{Answers, past};
 ghost use Rattle.start.specs.Starting.{Due, HeldFits, Starts, Steps, Timed, TurnStarts};
@@ -14,7 +14,6 @@ ghost use Rattle.start.specs.Starting.{Due, HeldFits, Starts, Steps, Timed, Turn
 use accept::accepted::Load;
 use arrivals::state::Planner;
 use decide::settle;
-use load::block::Block;
 use rows::stages;
 use rules::mode::{HeldFlow, Mode, Turn};
 use rules::row::Row;
@@ -27,13 +26,13 @@ pub struct Start {
 }
 
 // The block at a place of the table starts at the clock. Its dominant time and stage are found once, and the time is handed on.
-#[tactic(auto, unfolding(rules::specs::Load::block_at, rules::specs::Plan::row_of))]
+#[tactic(auto, unfolding(rules::specs::Plan::row_of))]
 fn start_at(load: &Load<'_>, planner: &Planner, turn: Turn, hold: u64, place: usize) -> Start
-    requires { HasBlock load.now.blocks.now place × Timed planner.now.core }
+    requires { (place < load.now.counts.blocks) × Timed planner.now.core }
     ensures row { (from : List ℕ) → result.row ≡ row_of (the_load load.now) (core_of planner.now from) turn hold place }
     ensures time { result.time ≡ dominant_time (block_at load.now.blocks.now place) }
 {
-    let block = Block::at(&load.blocks[6 * place..]);
+    let block = load.block(place);
     let peak = dominant::highest(block);
     let core = &planner.core;
     Start {

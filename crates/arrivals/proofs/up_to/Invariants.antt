@@ -3,5 +3,5 @@ use Rattle.accept.specs.Loads.{the_load}
 use Rattle.arrivals.proofs.Taking.{Taking}
 use Rattle.arrivals.proofs.up_to.Given as goal
 
-abbrev pub invariant-loop-block : goal.invariant-loop-block
-invariant-loop-block l = Taking (the_load l.load) l.tick l.fn.planner l.planner l.block
+abbrev pub invariant-loop-place : goal.invariant-loop-place
+invariant-loop-place l = Taking (the_load l.load) l.tick l.fn.planner l.planner l.place

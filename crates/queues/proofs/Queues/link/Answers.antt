@@ -1,14 +1,15 @@
 -- `Queues::link` meets its contract: at each turn the blocks from the one reached on are linked.
-use Rattle.std.proofs.Common.{◌+◌, ◌-◌, ◌≡◌, arith, refl}
+use Rattle.std.proofs.Common.{ap, ◌+◌, ◌-◌, ◌≡◌, arith, refl}
+use Rattle.load.specs.declared.block.Block.{Block}
 use Rattle.std.proofs.lemmas.List.{get_or-replicate}
 use Rattle.rules.proofs.Blocks.{get_d_zeros}
 use Rattle.queues.specs.Queues.{most, none, unlinked}
-use Rattle.queues.proofs.Linking.{first_none, flow_below, flow_word, linked_more}
+use Rattle.queues.proofs.Linking.{first_none, flow_below, linked_more}
 use Rattle.queues.proofs.Queues.link.Goals as goal
 
-pub loop-block-init : goal.loop-block-init
+pub loop-place-init : goal.loop-place-init
 unfolding unlinked
-loop-block-init c =
+loop-place-init c =
     let load = c.args.load.now in
     rw c.requires (record {
       stored = (refl, refl);
@@ -17,23 +18,23 @@ loop-block-init c =
     })
 
 pub bounds-self-flow : goal.bounds-self-flow
-bounds-self-flow c = flow_below _ _ c.args.load.now.accepted _ (omega arith)
+bounds-self-flow c = rw c.block-flow.ensures (flow_below _ c.args.load.now.accepted _ (omega arith))
 
-pub bounds-self-flow-in-loop-block : goal.bounds-self-flow-in-loop-block
-bounds-self-flow-in-loop-block c = flow_below _ _ c.args.load.now.accepted _ (omega arith)
+pub bounds-self-flow-in-loop-place : goal.bounds-self-flow-in-loop-place
+bounds-self-flow-in-loop-place c = rw c.block-flow.ensures (flow_below _ c.args.load.now.accepted _ (omega arith))
 
-pub loop-block-preserved : goal.loop-block-preserved
-loop-block-preserved c =
+pub loop-place-preserved : goal.loop-place-preserved
+loop-place-preserved c =
     let load = c.args.load.now in
-    let at = c.loop-block in
-    let i = at.block - 1 in
-    let same : at.block ≡ i + 1 = omega arith in
-    linked_more _ _ i _ at.self (omega (arith, load.accepted.blocks)) (flow_below _ _ load.accepted i (omega arith)) (flow_word _ i) (rw same at at.invariant)
+    let at = c.loop-place in
+    let i = at.place - 1 in
+    let same : at.place ≡ i + 1 = omega arith in
+    linked_more _ _ i _ at.self (omega (arith, load.accepted.blocks)) (rw c.block-flow.ensures (flow_below _ load.accepted i (omega arith))) (ap (λ (b : Block). b.flow) c.block-flow.ensures) (rw same at at.invariant)
 
 pub returns : goal.returns
 returns c =
-    let at = c.loop-block in
-    let none_left : at.block ≡ 0 = omega arith in
+    let at = c.loop-place in
+    let none_left : at.place ≡ 0 = omega arith in
     let linked = rw none_left at at.invariant in
     record {
       long = refl;

@@ -2,5 +2,5 @@
 use Rattle.queues.proofs.Linking.{LinkedFrom}
 use Rattle.queues.proofs.Queues.link.Given as goal
 
-abbrev pub invariant-loop-block : goal.invariant-loop-block
-invariant-loop-block l = LinkedFrom l.load.blocks.now l.load.counts.blocks l.block l.self
+abbrev pub invariant-loop-place : goal.invariant-loop-place
+invariant-loop-place l = LinkedFrom l.load.blocks.now l.load.counts.blocks l.place l.self
