@@ -35,6 +35,7 @@ pub fn plan(
             // This is never reached: there is a start for each block that is listed.
             break;
         };
+        // By its place in the table: of one that is lent in chunks a proof would know the length alone, and not the words.
         row::write(&mut rows[15 * i..], start.row);
         record::note(flows, turns, start.row, start.time);
         tally.count(start.row.hold);
