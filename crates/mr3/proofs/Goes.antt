@@ -102,7 +102,7 @@ module _ (c : Counts) (n : ℕ) (table : List ℕ) (fs₀ : List FlowRecord) (ws
   abbrev listed : ℕ
   listed = min n c.blocks
 
-  -- The planner and its arrays stand for a state that so many starts led to, and the rest of the plan from there makes of the counts
+  -- The planner stands for a state that so many starts led to, and the rest of the plan from there makes of the counts
   -- and the tables what the call promises.
   pub record Goes (i : ℕ) (p : Planner) (t : Tally) (fs : List FlowRecord) (ws : List ℕ) : Type 0 where
     pub accepted : Accepted L

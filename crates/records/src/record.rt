@@ -1,4 +1,4 @@
-// One record. Each function gets the file from the record's length byte on.
+// One record. Each function gets the bytes from the record's length byte on: the rest of the file, or the record alone.
 ghost use Rattle.std.specs.Prelude.{◌≡◌, ◌+◌, ◌*◌, ◌≤◌, length};
 ghost use Rattle.records.specs.Records.{block_in, block_record, flow_record, name_bytes, time_in};
 ghost use Rattle.records.specs.Records.{measure as Layout·measure};
