@@ -1,36 +1,20 @@
 // A case after its head: its parts are read, its call is made, and its line is put on the page.
 use cases::head::{Call, Head};
 use cases::input::read_full;
-use cases::{BadCase, table};
+use cases::{BadCase, answer, table};
 use line::Page;
-use load::refusal::Verdict;
-use loadfile::Answer;
 use std::io::Read;
 
 fn sound(out: &mut Page, file: &[u8]) {
-    out.text(b"sound");
-    out.spaced(load::refusal::number(loadfile::sound(file)));
-}
-
-fn put_answer(out: &mut Page, answer: Answer) {
-    match answer {
-        Answer::Refused(why) => {
-            out.text(b"read ");
-            out.decimal(load::refusal::number(Verdict::Refused(why)));
-            out.text(b" 0 0 0")
-        }
-        Answer::Read(counts) => {
-            out.text(b"read 0");
-            out.spaced(counts.stages as u64);
-            out.spaced(counts.flows as u64);
-            out.spaced(counts.blocks as u64)
-        }
-    }
+    let number = load::refusal::number(loadfile::sound(file));
+    answer::put(out, b"sound", number, &[]);
 }
 
 fn read(out: &mut Page, file: &[u8], blocks: &mut [u32]) {
     table::mark(blocks, 4_000_000_000);
-    put_answer(out, loadfile::read(file, blocks));
+    let mut counts = [0; 3];
+    let number = words::put(loadfile::read(file, blocks), &mut counts);
+    answer::put(out, b"read", number, &counts);
     table::put(out, blocks);
 }
 

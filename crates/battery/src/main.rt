@@ -28,8 +28,7 @@ fn run<R: Read, W: Write>(from: &mut R, to: &mut W) -> Result<(), BadCase> {
 }
 
 fn main(rt: HostRuntime) {
-    let mut to = rt.stdout();
-    if run(&mut rt.stdin(), &mut to).is_err() {
-        let _ = to.write_all(b"bad case\n");
+    if let Err(bad) = run(&mut rt.stdin(), &mut rt.stdout()) {
+        let _ = println!(rt; "{bad}");
     }
 }

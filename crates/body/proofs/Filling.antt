@@ -1,10 +1,8 @@
--- Filling the block table: what holds when the blocks above the byte reached have been written, and that one more block keeps it.
+-- Filling the block table: what holds when some blocks have been written, and that one more record keeps it.
 use Prim.Native.Nat.{ℕ, zero, suc, ◌+◌, ◌-◌, ◌*◌, ◌≤◌, ◌<◌}
 use mathlib.Core.List.{List, ◌++◌, append_assoc, append-nil}
 use mathlib.Core.Path.{◌≡◌, refl, sym, ap, ◌∙◌}
 use native.Mathlib.Omega.{arith}
-use borrow.Author.Tests.{ltb-false}
-use lib.Dec.{ltb}
 use lib.ListN.{length, take, drop, length-append, length-drop, take-append-drop}
 use lib.Seq.{drop_at, drop-drop}
 use Rattle.std.specs.Prelude.{Ok}
@@ -12,7 +10,6 @@ use Rattle.std.proofs.lemmas.List.{get_or_append_left}
 use Rattle.load.specs.declared.block.Block.{Block}
 use Rattle.load.specs.declared.counts.Counts.{Counts}
 use Rattle.load.specs.Blocks.{words_of}
-use Rattle.load.proofs.Cases.{cases}
 use Rattle.load.proofs.Parts.{drop_over, length_over, over, take_over}
 use Rattle.records.specs.Answers.{list_of, walk_of}
 use Rattle.records.specs.Records.{block_in, block_record, block_records, four_bytes, parsed, time_in, two_bytes}
@@ -20,27 +17,25 @@ use Rattle.body.specs.Body.{table_words}
 use Rattle.body.proofs.Walks.{block_within, blocks_end, blocks_next, blocks_sound, list_onto, walk_onto}
 
 -- a block is in the bytes of its record alone, whatever follows
-module _ (record-bytes next : List ℕ) where
-  two_in_record : (i : ℕ) → i + 2 ≤ length record-bytes → two_bytes (record-bytes ++ next) i ≡ two_bytes record-bytes i
+module _ (bytes next : List ℕ) where
+  two_in_record : (i : ℕ) → i + 2 ≤ length bytes → two_bytes (bytes ++ next) i ≡ two_bytes bytes i
   unfolding two_bytes
-  two_in_record i h = rw (get_or_append_left record-bytes next 0 i (omega arith), get_or_append_left record-bytes next 0 (i + 1) (omega arith))
+  two_in_record i h = rw (get_or_append_left bytes next 0 i (omega arith), get_or_append_left bytes next 0 (i + 1) (omega arith))
 
-  four_in_record : (i : ℕ) → i + 4 ≤ length record-bytes → four_bytes (record-bytes ++ next) i ≡ four_bytes record-bytes i
+  four_in_record : (i : ℕ) → i + 4 ≤ length bytes → four_bytes (bytes ++ next) i ≡ four_bytes bytes i
   unfolding four_bytes
   four_in_record i h = rw (two_in_record i (omega arith), two_in_record (i + 2) (omega arith))
 
-  time_in_record : (stages stage : ℕ) → length record-bytes ≡ 7 + 4 * stages → time_in stages stage (record-bytes ++ next) ≡ time_in stages stage record-bytes
+  time_in_record : (stages stage : ℕ) → length bytes ≡ 7 + 4 * stages → time_in stages stage (bytes ++ next) ≡ time_in stages stage bytes
   unfolding time_in
-  time_in_record stages stage h =
-      cases (ltb stages stage)
-      (λ lacks. rw lacks refl)
-      (λ has. let within = ltb-false stages stage has in rw (has, four_in_record (3 + 4 * stage) (omega arith)) refl)
+  time_in_record stages stage h = grind (arith, four_in_record)
 
-  pub block_in_record : (stages : ℕ) → length record-bytes ≡ 7 + 4 * stages → block_in stages (record-bytes ++ next) ≡ block_in stages record-bytes
+  pub block_in_record : (stages : ℕ) → length bytes ≡ 7 + 4 * stages → block_in stages (bytes ++ next) ≡ block_in stages bytes
   unfolding block_in
   block_in_record stages h =
       rw (two_in_record 1 (omega arith), four_in_record 3 (omega arith), time_in_record stages 1 h, time_in_record stages 2 h, time_in_record stages 3 h, time_in_record stages 4 h)
 
+-- a block has six words
 pub six_words : (b : Block) → length (words_of b) ≡ 6
 unfolding words_of
 six_words b = refl
@@ -60,10 +55,6 @@ module _ (file : List ℕ) (counts : Counts) (from : ℕ) (table₀ : List ℕ) 
     pub kept : drop (6 * written) table ≡ drop (6 * written) table₀
     pub words : table_words (list_of (block_records file counts 0 counts.blocks from)) ≡ take (6 * written) table ++ table_words (list_of (block_records file counts above left at))
 
-  pub filling_starts : from ≤ length file → walk_of (block_records file counts 0 counts.blocks from) ≡ Ok (length file) → Filling (drop from file) table₀ 0
-  filling_starts h walk =
-      record { above = 0; at = from; left = counts.blocks; within = h; here = refl; all = omega arith; walk = walk; long = refl; kept = refl; words = refl }
-
   module _ (rest table : List ℕ) (written : ℕ) (f : Filling rest table written) where
     -- the record at hand was read when the file was tested
     pub filling_reads : 0 < f.left → block_record counts f.above (drop f.at file) ≡ parsed (block_in counts.stages (drop f.at file)) (7 + 4 * counts.stages)
@@ -73,7 +64,7 @@ module _ (file : List ℕ) (counts : Counts) (from : ℕ) (table₀ : List ℕ) 
     filling_within h = block_within file counts f.above f.at _ _ (filling_reads h) f.within
 
     -- One more record is at hand.
-    module _ (record-bytes next : List ℕ) (parts : rest ≡ record-bytes ++ next) (size : length record-bytes ≡ 7 + 4 * counts.stages) (room : 6 * counts.blocks ≤ length table₀) where
+    module _ (bytes next : List ℕ) (parts : rest ≡ bytes ++ next) (size : length bytes ≡ 7 + 4 * counts.stages) (room : 6 * counts.blocks ≤ length table₀) where
       filling_goes_on : 0 < f.left
       unfolding walk_of
       filling_goes_on = go f.left refl where
@@ -81,18 +72,18 @@ module _ (file : List ℕ) (counts : Counts) (from : ℕ) (table₀ : List ℕ) 
         go zero none =
             let last : Ok f.at ≡ Ok (length file) = sym (ap walk_of (blocks_end file counts f.above f.at f.left (omega arith))) ∙ f.walk in
             let end : f.at ≡ length file = cc in
-            absurd (omega (arith, ap length f.here, length-drop f.at file, ap length parts, length-append record-bytes next))
+            absurd (omega (arith, ap length f.here, length-drop f.at file, ap length parts, length-append bytes next))
         go (suc k) some = omega arith
 
       pub filling_room : 6 * written + 6 ≤ length table
       filling_room = omega (arith, filling_goes_on, f.all, f.long)
 
-      pub filling_step : (b : Block) → b ≡ block_in counts.stages record-bytes → Filling next (over table (6 * written) (words_of b)) (written + 1)
+      pub filling_step : (b : Block) → b ≡ block_in counts.stages bytes → Filling next (over table (6 * written) (words_of b)) (written + 1)
       unfolding table_words
       filling_step b same =
           let long = 7 + 4 * counts.stages in
-          let bytes : block_in counts.stages (drop f.at file) ≡ b = rw (← f.here, parts, block_in_record record-bytes next counts.stages size) (sym same) in
-          let read : block_record counts f.above (drop f.at file) ≡ parsed b (7 + 4 * counts.stages) = rw bytes at (filling_reads filling_goes_on) in
+          let same_block : block_in counts.stages (drop f.at file) ≡ b = rw (← f.here, parts, block_in_record bytes next counts.stages size) (sym same) in
+          let read : block_record counts f.above (drop f.at file) ≡ parsed b (7 + 4 * counts.stages) = rw same_block at (filling_reads filling_goes_on) in
           let goes_on = blocks_next file counts f.above f.at f.left (f.left - 1) b _ (omega (arith, filling_goes_on)) read in
           let on = sym (ap walk_of goes_on ∙ walk_onto b _) ∙ f.walk in
           let six : 6 * (written + 1) ≡ 6 * written + 6 = omega arith in
@@ -101,7 +92,7 @@ module _ (file : List ℕ) (counts : Counts) (from : ℕ) (table₀ : List ℕ) 
             at = f.at + long;
             left = f.left - 1;
             within = filling_within filling_goes_on;
-            here = sym (sym (drop-drop long f.at file) ∙ ap (drop long) (sym f.here ∙ parts) ∙ drop_at record-bytes next _ size);
+            here = sym (sym (drop-drop long f.at file) ∙ ap (drop long) (sym f.here ∙ parts) ∙ drop_at bytes next _ size);
             all = omega (arith, f.all, filling_goes_on);
             walk = on;
             long = length_over table (6 * written) (words_of b) 6 (six_words b) filling_room ∙ f.long;

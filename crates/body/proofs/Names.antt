@@ -12,6 +12,17 @@ use Rattle.records.proofs.Records.{flow_record_reads}
 use Rattle.body.specs.Body.{name_after, name_at}
 use Rattle.body.proofs.Walks.{flows_end, flows_next}
 
+-- what was read in two steps was read in each
+pub past_reads : {A : Type 0} (w : Walk) (next : ℕ → Parsed A) (a : A) (end : ℕ) → past w next ≡ parsed a end → (size : ℕ) × (w ≡ Ok size) × (next size ≡ parsed a end)
+unfolding past
+past_reads (Err r) next a end e = absurd cc
+past_reads (Ok size) next a end e = (size, refl, e)
+
+pub onto_reads : {A : Type 0} (a : A) (p : Parsed (List A)) (list : List A) (end : ℕ) → onto a p ≡ parsed list end → (rest : List A) × (p ≡ parsed rest end) × (list ≡ a ∷ rest)
+unfolding onto
+onto_reads a (refused r) list end e = absurd cc
+onto_reads a (parsed rest at) list end e = (rest, cc, cc)
+
 -- a walk over flows that is read: the first record, and the walk over the others
 pub record FlowsRead (s : List ℕ) (k at end : ℕ) (names : List Part) : Type 0 where
   pub others : List Part
@@ -21,15 +32,11 @@ pub record FlowsRead (s : List ℕ) (k at end : ℕ) (names : List Part) : Type 
   pub all : names ≡ name_in at size ∷ others
 
 pub flows_read : (s : List ℕ) (k at end : ℕ) (names : List Part) → flow_records s (suc k) at ≡ parsed names end → FlowsRead s k at end names
-unfolding flow_records past onto
-flows_read s k at end names e = go (flow_record (drop at s)) refl e where
-  rest : (size : ℕ) → flow_record (drop at s) ≡ Ok size → (q : Parsed (List Part)) → flow_records s k (at + size) ≡ q → onto (name_in at size) q ≡ parsed names end → FlowsRead s k at end names
-  rest size m (refused r) n e = absurd cc
-  rest size m (parsed others last) n e = record { others = others; size = size; first = m; rest = cc; all = cc }
-
-  go : (w : Walk) → flow_record (drop at s) ≡ w → past w (λ size. onto (name_in at size) (flow_records s k (at + size))) ≡ parsed names end → FlowsRead s k at end names
-  go (Err r) m e = absurd cc
-  go (Ok size) m e = rest size m (flow_records s k (at + size)) refl e
+unfolding flow_records
+flows_read s k at end names e =
+    let p = past_reads (flow_record (drop at s)) _ _ _ e in
+    let o = onto_reads _ _ _ _ p.2 in
+    record { others = o.0; size = p.0; first = p.1; rest = o.1; all = o.2 }
 
 pub own_name : (s : List ℕ) (count at end : ℕ) (names : List Part) → flow_records s count at ≡ parsed names end
     → (flow : ℕ) → flow < count → name_after s (walk_of (flow_records s flow at)) ≡ get_or names flow empty

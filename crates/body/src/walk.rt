@@ -10,7 +10,7 @@ use load::refusal::Refusal;
 use records::record;
 
 // The byte after so many flow records, which start at byte 10.
-#[tactic(auto, using(load::proofs::Parts::part_rest, crate::proofs::Walks::flow_within, crate::proofs::Walks::flows_stop, crate::proofs::Walks::flows_next, crate::proofs::Walks::flows_end))]
+#[tactic(auto, using(load::proofs::Parts::part_rest, crate::proofs::Walks::flow_within, crate::proofs::Walks::flows_next, crate::proofs::Walks::flows_end))]
 fn flows(file: &[u8], count: usize) -> Result<usize, Refusal>
     requires { 10 ≤ length file.now }
     ensures { result ≡ walk_of (flow_records file.now count 10) }
@@ -23,7 +23,7 @@ fn flows(file: &[u8], count: usize) -> Result<usize, Refusal>
 }
 
 // The byte after the block records, which start at `from`.
-#[tactic(auto, using(load::proofs::Parts::part_rest, records::proofs::Records::block_found_reads, crate::proofs::Walks::block_within, crate::proofs::Walks::blocks_stop, crate::proofs::Walks::blocks_next, crate::proofs::Walks::blocks_end, crate::proofs::Walks::walk_onto), unfolding(records::specs::Answers::walk_of))]
+#[tactic(auto, using(crate::proofs::Walks::blocks_end), unfolding(records::specs::Answers::walk_of))]
 fn blocks(file: &[u8], counts: Counts, from: usize) -> Result<usize, Refusal>
     requires { (counts.stages ≤ 4) × (from ≤ length file.now) }
     ensures { result ≡ walk_of (block_records file.now counts 0 counts.blocks from) }
@@ -39,7 +39,7 @@ fn blocks(file: &[u8], counts: Counts, from: usize) -> Result<usize, Refusal>
 }
 
 // Where the block records start in a file with a good header, if every record is sound and nothing follows.
-#[tactic(auto, using(load::proofs::Cases::by_tests, crate::proofs::Walks::flows_within), unfolding(crate::specs::Body::body_walk, crate::specs::Body::body_blocks, crate::specs::Body::body_end, records::specs::Records::stop_if))]
+#[tactic(auto, using(crate::proofs::Walks::flows_within), unfolding(crate::specs::Body::body_walk, crate::specs::Body::body_blocks, crate::specs::Body::body_end, records::specs::Records::stop_if))]
 pub fn body(file: &[u8], counts: Counts) -> Result<usize, Refusal>
     requires { (counts.stages ≤ 4) × (10 ≤ length file.now) }
     ensures { result ≡ body_walk counts file.now }

@@ -2,10 +2,10 @@
 use Prim.Native.Nat.{ℕ, ◌≤◌}
 use mathlib.Core.List.{List}
 use mathlib.Core.Path.{◌≡◌}
-use borrow.Author.Tests.{ltb-false}
+use native.Mathlib.Omega.{arith}
 use lib.ListN.{length}
 use Rattle.std.specs.Prelude.{Ok}
-use Rattle.load.proofs.Cases.{given_accepted, or_false}
+use Rattle.load.specs.Refusals.{given}
 use Rattle.limits.proofs.Accepted.{CountsWithin, counts_within}
 use Rattle.header.specs.Header.{counts_in, header_verdict}
 
@@ -14,8 +14,5 @@ pub record Header (s : List ℕ) : Type 0 where
   pub within : CountsWithin (counts_in s)
 
 pub header_good : (s : List ℕ) → header_verdict s ≡ Ok tt → Header s
-unfolding header_verdict
-header_good s e =
-    let version = given_accepted _ _ _ e in
-    let size = given_accepted _ _ _ version.1 in
-    record { long = ltb-false (length s) 10 (or_false _ _ size.0).0; within = counts_within (counts_in s) size.1 }
+unfolding header_verdict given
+header_good s e = record { long = grind arith; within = counts_within (counts_in s) (grind arith) }

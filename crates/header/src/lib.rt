@@ -22,11 +22,11 @@ pub fn counts(file: &[u8]) -> Counts
 }
 
 // Tests 1, 2, 3 and 4.
-#[tactic(auto, using(load::proofs::Cases::by_tests), unfolding(crate::specs::Header::header_verdict, load::specs::Refusals::given))]
+#[tactic(auto, unfolding(crate::specs::Header::header_verdict, load::specs::Refusals::given))]
 pub fn test(file: &[u8]) -> Result<(), Refusal>
     ensures { result ≡ header_verdict file.now }
 {
-    if file.is_empty() || file[0] != 1 {
+    if file.first() != Some(&1) {
         return Err(Refusal::Version);
     }
     if file.len() < 10 || four(file, 1) as usize != file.len() - 5 {

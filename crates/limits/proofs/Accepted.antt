@@ -1,15 +1,15 @@
 -- What an accepted test says of the numbers tested.
-use Prim.Native.Nat.{ℕ, zero, suc, ◌+◌, ◌≤◌, ◌<◌}
-use mathlib.Core.Bool.{true, false, true≢false}
-use mathlib.Core.Path.{◌≡◌, refl, sym, ◌∙◌}
+use Prim.Native.Nat.{ℕ, ◌+◌, ◌≤◌, ◌<◌}
+use mathlib.Core.Bool.{false}
+use mathlib.Core.Path.{◌≡◌}
 use native.Mathlib.Omega.{arith}
 use borrow.Author.Tests.{ltb-false, ltb-true, not-false}
-use lib.Dec.{ltb}
 use Rattle.std.specs.Prelude.{Ok}
 use Rattle.load.specs.declared.block.Block.{Block}
 use Rattle.load.specs.declared.counts.Counts.{Counts}
-use Rattle.load.proofs.Cases.{by_tests, cases, given_accepted, or_false}
+use Rattle.load.proofs.Cases.{given_accepted, or_false}
 use Rattle.load.proofs.Stages.{four_cases, time_at}
+use Rattle.load.specs.Refusals.{given}
 use Rattle.limits.specs.Tests.{is_all_zero, block_verdict, counts_verdict, is_over_limit, is_time_over}
 
 pub record CountsWithin (c : Counts) : Type 0 where
@@ -19,18 +19,8 @@ pub record CountsWithin (c : Counts) : Type 0 where
   pub blocks_within : c.blocks ≤ 1024
 
 pub counts_within : (c : Counts) → counts_verdict c ≡ Ok tt → CountsWithin c
-unfolding counts_verdict
-counts_within c e =
-    let stages = given_accepted _ _ _ e in
-    let many = given_accepted _ _ _ stages.1 in
-    let s = or_false _ _ stages.0 in
-    let m = or_false _ _ many.0 in
-    record {
-      some_stage = ltb-false c.stages 1 s.0;
-      stages_within = ltb-false 4 c.stages s.1;
-      flows_within = ltb-false 64 c.flows m.0;
-      blocks_within = ltb-false 1024 c.blocks m.1;
-    }
+unfolding counts_verdict given
+counts_within c e = record { some_stage = grind arith; stages_within = grind arith; flows_within = grind arith; blocks_within = grind arith }
 
 -- a block below one that arrives at `above` (0 for the first)
 pub record BlockWithinLimits (c : Counts) (above : ℕ) (b : Block) : Type 0 where
@@ -47,20 +37,11 @@ pub record BlockWithinLimits (c : Counts) (above : ℕ) (b : Block) : Type 0 whe
 -- a time is within the limit also at a stage that the load lacks, where it is 0
 time_within : (stages stage time : ℕ) → is_time_over stages stage time ≡ false → (time ≤ 10_000_000) × (0 < time → stage ≤ stages)
 unfolding is_time_over
-time_within stages stage time e =
-    cases (ltb stages stage)
-    (λ lacks. let none = ltb-false 0 time (rw lacks at e) in (omega arith, λ some. absurd (omega arith)))
-    (λ has. (ltb-false 10_000_000 time (rw has at e), λ some. ltb-false stages stage has))
+time_within stages stage time e = grind arith
 
 some_time : (b : Block) → is_all_zero b ≡ false → 0 < b.time1 + b.time2 + b.time3 + b.time4
 unfolding is_all_zero
-some_time b e = go (b.time1 + b.time2 + b.time3 + b.time4) refl where
-  go : (all : ℕ) → b.time1 + b.time2 + b.time3 + b.time4 ≡ all → 0 < all
-  go zero none =
-      let times : (b.time1 ≡ 0) × (b.time2 ≡ 0) × (b.time3 ≡ 0) × (b.time4 ≡ 0) = omega arith in
-      let all : is_all_zero b ≡ true = search by_tests in
-      absurd (true≢false (sym all ∙ e))
-  go (suc n) some = omega arith
+some_time b e = grind arith
 
 pub block_within_limits : (c : Counts) (above : ℕ) (b : Block) → block_verdict c above b ≡ Ok tt → BlockWithinLimits c above b
 unfolding block_verdict is_over_limit

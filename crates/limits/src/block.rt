@@ -7,7 +7,7 @@ use load::counts::Counts;
 use load::refusal::Refusal;
 
 // The most that a time at a stage may be: its limit, or 0 where the load lacks the stage.
-#[tactic(auto, using(load::proofs::Cases::by_tests), unfolding(crate::specs::Tests::is_time_over))]
+#[tactic(auto, unfolding(crate::specs::Tests::is_time_over))]
 fn most(stages: usize, stage: usize) -> u32
     ensures { (time : ℕ) → ltb result time ≡ is_time_over stages stage time }
 {
@@ -21,7 +21,7 @@ fn time_over(stages: usize, stage: usize, time: u32) -> bool
     most(stages, stage) < time
 }
 
-#[tactic(auto, using(load::proofs::Cases::by_tests), unfolding(crate::specs::Tests::is_over_limit))]
+#[tactic(auto, unfolding(crate::specs::Tests::is_over_limit))]
 fn over_limit(stages: usize, block: Block) -> bool
     ensures { result ≡ is_over_limit stages block }
 {
@@ -32,7 +32,7 @@ fn over_limit(stages: usize, block: Block) -> bool
         || time_over(stages, 4, block.time4)
 }
 
-#[tactic(auto, using(load::proofs::Cases::by_tests), unfolding(crate::specs::Tests::is_all_zero))]
+#[tactic(auto, unfolding(crate::specs::Tests::is_all_zero))]
 fn all_zero(block: Block) -> bool
     ensures { result ≡ is_all_zero block }
 {
@@ -40,7 +40,7 @@ fn all_zero(block: Block) -> bool
 }
 
 // Tests 8 to 11 of a block below one that arrives at `above` (0 for the first).
-#[tactic(auto, using(load::proofs::Cases::by_tests), unfolding(crate::specs::Tests::block_verdict, load::specs::Refusals::given))]
+#[tactic(auto, unfolding(crate::specs::Tests::block_verdict, load::specs::Refusals::given))]
 pub fn test(counts: Counts, above: u32, block: Block) -> Result<(), Refusal>
     ensures { result ≡ block_verdict counts above block }
 {

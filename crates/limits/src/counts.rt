@@ -6,7 +6,7 @@ use load::counts::Counts;
 use load::refusal::Refusal;
 
 // Tests 3 and 4.
-#[tactic(auto, using(load::proofs::Cases::by_tests), unfolding(crate::specs::Tests::counts_verdict, load::specs::Refusals::given))]
+#[tactic(auto, unfolding(crate::specs::Tests::counts_verdict, load::specs::Refusals::given))]
 pub fn test(counts: Counts) -> Result<(), Refusal>
     ensures { result ≡ counts_verdict counts }
 {

@@ -1,10 +1,10 @@
 // What a program prints is made on a page, one byte behind the other, and written by one function.
 #![tactic(auto)]
 
-ghost use Rattle.std.specs.Prelude.{◌<◌, [], ◌∷◌, ◌≡◌, OnOk};
+ghost use Rattle.std.specs.Prelude.{◌<◌, [], ◌∷◌, ◌≡◌, ◌≤◌, length, OnOk};
 ghost use Rattle.std.specs.Io.KnownBytes.{Appends};
 ghost use Rattle.line.specs.Numerals.{decimal_of, hex_digit_ascii, hex_of, last_digits};
-ghost use Rattle.line.specs.Pages.{Put};
+ghost use Rattle.line.specs.Pages.{Put, room};
 
 use std::io;
 use std::io::Write;
@@ -36,6 +36,14 @@ impl Page {
             bytes: [0; ROOM],
             len: 0,
         }
+    }
+
+    // How many bytes the page has.
+    pub fn len(&self) -> usize
+        ensures value { result ≡ length self.now }
+        ensures within { result ≤ room }
+    {
+        self.len.min(ROOM)
     }
 
     // Begins the page anew.
@@ -117,7 +125,7 @@ impl Page {
     pub fn write<W: Write>(&self, to: &mut W) -> io::Result<()>
         ensures { OnOk result (Appends (W.contents to.old) (W.contents to.new) self.now) }
     {
-        to.write_all(&self.bytes[..self.len.min(ROOM)])
+        to.write_all(&self.bytes[..self.len()])
     }
 }
 

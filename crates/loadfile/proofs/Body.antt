@@ -1,6 +1,6 @@
 -- What the walk over all records says of the file: refused as the layout refuses it, or read whole.
 use Prim.Native.Nat.{ℕ}
-use mathlib.Core.Bool.{Bool, true, false, not}
+use mathlib.Core.Bool.{Bool, true, false}
 use mathlib.Core.List.{List}
 use mathlib.Core.Path.{◌≡◌, refl}
 use borrow.Author.Tests.{eqb-true}
@@ -23,27 +23,6 @@ abbrev pub held : Counts → List Part → List Block → Contents
 held c names blocks = record { counts = c; names = names; blocks = blocks }
 
 module _ (c : Counts) (s : List ℕ) where
-  abbrev to_end : List Part → List Block → ℕ → Parsed Contents
-  to_end names blocks end = whole s (held c names blocks) end
-
-  abbrev to_blocks : List Part → ℕ → Parsed Contents
-  to_blocks names from = after (block_records s c 0 c.blocks from) (to_end names)
-
-  pub body_refuses : (r : Refusal) → body_walk c s ≡ Err r → records c s ≡ refused r
-  unfolding body_walk body_blocks body_end records after walk_of whole unless given stop_if
-  body_refuses r e = flows (flow_records s c.flows 10) e where
-    ended : (l : Contents) (from end : ℕ) (same : Bool) → stop_if (not same) Record (Ok from) ≡ Err r → unless (given (not same) Record (Ok tt)) (parsed l end) ≡ refused r
-    ended l from end true e = absurd cc
-    ended l from end false e = cc
-
-    blocks : (names : List Part) (from : ℕ) (q : Parsed (List Block)) → body_end s from (walk_of q) ≡ Err r → after q (to_end names) ≡ refused r
-    blocks names from (refused q) e = cc
-    blocks names from (parsed bs end) e = ended (held c names bs) from end (eqb end (length s)) e
-
-    flows : (p : Parsed (List Part)) → body_blocks c s (walk_of p) ≡ Err r → after p to_blocks ≡ refused r
-    flows (refused q) e = cc
-    flows (parsed names from) e = blocks names from (block_records s c 0 c.blocks from) e
-
   -- what a body that is sound was read from
   pub record Sound (from : ℕ) : Type 0 where
     pub names : List Part
@@ -52,25 +31,37 @@ module _ (c : Counts) (s : List ℕ) where
     pub blocks_read : block_records s c 0 c.blocks from ≡ parsed blocks (length s)
     pub reads : records c s ≡ parsed (held c names blocks) (length s)
 
-  pub body_reads : (from : ℕ) → body_walk c s ≡ Ok from → Sound from
-  unfolding body_walk body_blocks body_end records after walk_of whole unless given stop_if
-  body_reads from e = flows (flow_records s c.flows 10) refl e where
-    blocks : (names : List Part) (start : ℕ) → flow_records s c.flows 10 ≡ parsed names start → (q : Parsed (List Block)) → block_records s c 0 c.blocks start ≡ q → body_end s start (walk_of q) ≡ Ok from → Sound from
-    blocks names start p (refused r) m e = absurd cc
-    blocks names start p (parsed bs end) m e = ended (eqb end (length s)) refl e where
-      ended : (same : Bool) → eqb end (length s) ≡ same → stop_if (not same) Record (Ok start) ≡ Ok from → Sound from
-      ended true t e =
-          let all : end ≡ length s = eqb-true end (length s) t in
-          let place : start ≡ from = cc in
-          record {
-            names = names;
-            blocks = bs;
-            flows_read = rw (← place) p;
-            blocks_read = rw (← place, ← all) m;
-            reads = rw (p, m, t, all) refl;
-          }
-      ended false t e = absurd cc
+  -- the walk and the layout's word, case by case
+  data Walked : Type 0 where
+    stops : (r : Refusal) → body_walk c s ≡ Err r → records c s ≡ refused r → Walked
+    ends : (from : ℕ) → body_walk c s ≡ Ok from → Sound from → Walked
 
-    flows : (p : Parsed (List Part)) → flow_records s c.flows 10 ≡ p → body_blocks c s (walk_of p) ≡ Ok from → Sound from
-    flows (refused r) m e = absurd cc
-    flows (parsed names start) m e = blocks names start m (block_records s c 0 c.blocks start) refl e
+  walked : Walked
+  unfolding body_walk body_blocks body_end records after walk_of whole unless given stop_if
+  walked = flows (flow_records s c.flows 10) refl where
+    ended : (names : List Part) (from : ℕ) → flow_records s c.flows 10 ≡ parsed names from → (bs : List Block) (end : ℕ) → block_records s c 0 c.blocks from ≡ parsed bs end
+        → (same : Bool) → eqb end (length s) ≡ same → Walked
+    ended names from m bs end n true t =
+        let all : end ≡ length s = eqb-true end (length s) t in
+        ends from (rw (m, n, t) refl) (record { names = names; blocks = bs; flows_read = m; blocks_read = rw (← all) n; reads = rw (m, n, t, all) refl })
+    ended names from m bs end n false t = stops Record (rw (m, n, t) refl) (rw (m, n, t) refl)
+
+    blocks : (names : List Part) (from : ℕ) → flow_records s c.flows 10 ≡ parsed names from → (q : Parsed (List Block)) → block_records s c 0 c.blocks from ≡ q → Walked
+    blocks names from m (refused r) n = stops r (rw (m, n) refl) (rw (m, n) refl)
+    blocks names from m (parsed bs end) n = ended names from m bs end n (eqb end (length s)) refl
+
+    flows : (p : Parsed (List Part)) → flow_records s c.flows 10 ≡ p → Walked
+    flows (refused r) m = stops r (rw m refl) (rw m refl)
+    flows (parsed names from) m = blocks names from m (block_records s c 0 c.blocks from) refl
+
+  pub body_refuses : (r : Refusal) → body_walk c s ≡ Err r → records c s ≡ refused r
+  body_refuses r e = go walked where
+    go : Walked → records c s ≡ refused r
+    go (stops q w read) = cc
+    go (ends from w sound) = absurd cc
+
+  pub body_reads : (from : ℕ) → body_walk c s ≡ Ok from → Sound from
+  body_reads from e = go walked where
+    go : Walked → Sound from
+    go (stops r w read) = absurd cc
+    go (ends at w sound) = let same : at ≡ from = cc in rw (← same) sound

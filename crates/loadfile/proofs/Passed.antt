@@ -12,15 +12,15 @@ use Rattle.std.specs.Prelude.{Ok, Err}
 use Rattle.load.specs.declared.block.Block.{Block}
 use Rattle.load.specs.declared.counts.Counts.{Counts}
 use Rattle.load.specs.Blocks.{words_of}
-use Rattle.load.proofs.Cases.{given_accepted}
+use Rattle.load.specs.Refusals.{given}
 use Rattle.limits.specs.Tests.{block_verdict, counts_verdict}
 use Rattle.records.specs.Standing.{entry}
-use Rattle.records.specs.Records.{Parsed, Walk, refused, parsed, after, onto, block_measured, block_record, block_records, flow_records, measure, name_in}
+use Rattle.records.specs.Records.{Parsed, Walk, refused, parsed, after, block_measured, block_record, block_records, flow_records, measure, name_in}
 use Rattle.records.specs.Parts.{Part, bytes_in, empty}
 use Rattle.records.proofs.Records.{flow_record_reads, measure_within, unless_passed}
 use Rattle.header.specs.Header.{counts_in, header_verdict}
 use Rattle.body.specs.Body.{table_words}
-use Rattle.body.proofs.Names.{flows_read}
+use Rattle.body.proofs.Names.{flows_read, onto_reads}
 use Rattle.loadfile.specs.Calls.{of_file, of_standing, contents, own_or, shown_bytes, shown_name, shown_of, shown_part}
 use Rattle.loadfile.specs.Layout.{Contents, file_with, records, whole}
 use Rattle.loadfile.proofs.Body.{held}
@@ -36,11 +36,6 @@ after_reads : {A B : Type 0} (p : Parsed A) (next : A → ℕ → Parsed B) (b :
 unfolding after
 after_reads (refused r) next b end e = absurd cc
 after_reads (parsed a at) next b end e = record { value = a; at = at; first = refl; then = e }
-
-onto_reads : {A : Type 0} (a : A) (p : Parsed (List A)) (list : List A) (end : ℕ) → onto a p ≡ parsed list end → (rest : List A) × (p ≡ parsed rest end) × (list ≡ a ∷ rest)
-unfolding onto
-onto_reads a (refused r) list end e = absurd cc
-onto_reads a (parsed rest at) list end e = (rest, cc, cc)
 
 -- a block that is read passed its tests
 pub block_passed : (c : Counts) (above : ℕ) (rest : List ℕ) (b : Block) (size : ℕ) → block_record c above rest ≡ parsed b size → block_verdict c above b ≡ Ok tt
@@ -87,8 +82,8 @@ names_short s (suc k) at names end e flow =
     rw r.all (both_short (name_in at r.size) r.others flow (omega arith) (names_short s k (at + r.size) r.others end r.rest))
 
 header_counts : (s : List ℕ) → header_verdict s ≡ Ok tt → counts_verdict (counts_in s) ≡ Ok tt
-unfolding header_verdict
-header_counts s e = (given_accepted _ _ _ (given_accepted _ _ _ e).1).1
+unfolding header_verdict given
+header_counts s e = grind arith
 
 -- six words for each block
 blocks_long : (s : List ℕ) (c : Counts) (above k at : ℕ) (blocks : List Block) (end : ℕ) → block_records s c above k at ≡ parsed blocks end → length (table_words blocks) ≡ 6 * k

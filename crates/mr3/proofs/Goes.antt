@@ -1,6 +1,6 @@
 -- The loop of the plan call: what holds after so many starts (`Goes`), that it holds before the first, that each start keeps it, and
 -- that at the end it is what the call promises. It says what the rest of the plan will make of the tables and the counts.
-use Prim.Native.Nat.{ℕ, zero, suc, ◌+◌, ◌-◌, ◌*◌, ◌≤◌, ◌<◌, ◌^◌, min}
+use Prim.Native.Nat.{ℕ, suc, ◌+◌, ◌-◌, ◌*◌, ◌≤◌, ◌<◌, ◌^◌, min}
 use mathlib.Core.List.{List, [], ◌∷◌, ◌++◌, append_assoc, append-nil}
 use mathlib.Core.Option.{some}
 use mathlib.Core.Path.{◌≡◌, refl, sym, ap, ◌∙◌}
@@ -11,15 +11,16 @@ use lib.Dec.{eqb, ltb}
 use lib.ListN.{drop, get_or, length, length-append, length-replicate, length-set, replicate, take, take-append-drop}
 use lib.Seq.{drop-drop, get_or-set_other, get_or-set_same, length-take-le}
 use Rattle.std.specs.Prelude.{Err, None, Ok, Some}
+use Rattle.std.proofs.lemmas.Grind.{common_steps}
+use Rattle.std.proofs.lemmas.List.{get_or_append_left, get_or-replicate}
 use Rattle.load.specs.declared.counts.Counts.{Counts}
 use Rattle.load.specs.declared.refusal.Refusal.{Refusal}
 use Rattle.dominant.specs.Dominant.{dominant_time}
-use Rattle.load.proofs.Cases.{by_test, cases}
+use Rattle.load.proofs.Cases.{cases}
 use Rattle.load.proofs.Parts.{drop_over, length_over, over, put_over, take_over}
 use Rattle.rules.specs.declared.answer.Summary.{Summary}
 use Rattle.rules.specs.declared.record.FlowRecord.{FlowRecord}
 use Rattle.rules.specs.declared.row.Row.{Row}
-use Rattle.rules.specs.declared.stages.Span.{Span}
 use Rattle.rules.specs.Calls.{answer_of, flows_after, Plans, plan_verdict, rows_after}
 use Rattle.rules.specs.Counts as counts
 use Rattle.rules.specs.Counts.{added, counted, one, recorded, records, summary, unlisted}
@@ -35,6 +36,7 @@ use Rattle.rules.proofs.Sums.{one_most}
 use Rattle.arrivals.specs.declared.state.Planner.{Planner}
 use Rattle.arrivals.specs.State.{state_of}
 use Rattle.queues.specs.Queues.{Follows, most}
+use Rattle.start.specs.Starting.{Steps}
 use Rattle.start.specs.declared.step.Start.{Start}
 use Rattle.start.specs.Next.{Answers, past}
 use Rattle.progress.specs.declared.tally.Tally.{Tally}
@@ -45,22 +47,18 @@ use Rattle.progress.proofs.Running.{counted_on, never_done, run_next, step_row}
 -- where no block has started, no stage has a run
 no_end : (stages : ℕ) → (last_run stages (record { one = none_yet; two = none_yet; three = none_yet; four = none_yet })).finish ≡ 0
 unfolding last_run run_at none_yet
-no_end stages =
-    by_test (λ (x : Span). x.finish ≡ 0) (eqb stages 1) (λ _. refl) (λ _. by_test (λ (x : Span). x.finish ≡ 0) (eqb stages 2) (λ _. refl) (λ _. by_test (λ (x : Span). x.finish ≡ 0) (eqb stages 3) (λ _. refl) (λ _. refl)))
+no_end stages = grind (arith, common_steps)
 
 -- ---- records that have room for so many rows more
 abbrev Room : ℕ → ℕ → List FlowRecord → Type 0
 Room flows left fs =
     (f : ℕ) → f < flows → ((get_or fs f unlisted).blocks + left ≤ 1024) × ((get_or fs f unlisted).turns + left ≤ 1024) × ((get_or fs f unlisted).time + 10_000_000 * left ≤ 10_240_000_000)
 
-zeros : (m : ℕ) (rest : List FlowRecord) (i : ℕ) → i < m → get_or (replicate m unlisted ++ rest) i unlisted ≡ unlisted
-zeros zero rest i h = absurd (omega arith)
-zeros (suc m) rest zero h = refl
-zeros (suc m) rest (suc i) h = zeros m rest i (omega arith)
-
 emptied_room : (flows left : ℕ) (rest : List FlowRecord) → left ≤ 1024 → Room flows left (replicate flows unlisted ++ rest)
 unfolding unlisted
-emptied_room flows left rest few f h = rw (zeros flows rest f h) (omega arith, omega arith, omega arith)
+emptied_room flows left rest few f h =
+    let inside : f < length (replicate flows unlisted) = omega (arith, length-replicate flows unlisted) in
+    rw (get_or_append_left (replicate flows unlisted) rest unlisted f inside, get_or-replicate flows f unlisted unlisted h) (omega arith, omega arith, omega arith)
 
 module _ (table : List ℕ) (flows left before : ℕ) (fs : List FlowRecord) (r : Row)
     (below : r.flow < flows) (short : dominant_time (block_at table r.block) ≤ 10_000_000) (w : Room flows left fs) where
@@ -137,9 +135,6 @@ module _ (c : Counts) (n : ℕ) (table : List ℕ) (fs₀ : List FlowRecord) (ws
     abbrev ok : Accepted L × (c.flows ≤ length fs₀) × (15 * listed ≤ length ws₀)
     ok = accepted c n table (length fs₀) (length ws₀) said
 
-    pub accepted_there : Accepted L
-    accepted_there = ok.0
-
     pub flows_there : c.flows ≤ length fs₀
     flows_there = ok.1
 
@@ -187,6 +182,14 @@ module _ {c : Counts} {n : ℕ} {table : List ℕ} {fs₀ : List FlowRecord} {ws
   abbrev s : State
   s = state_of p g.from
 
+  -- how many starts are left
+  abbrev left : ℕ
+  left = min n c.blocks - i
+
+  -- as long as one is left, the planner is ready for it
+  pub goes_ready : i < min n c.blocks → Steps (load_of c table) p
+  goes_ready more = record { from = g.from; follows = g.follows; starts = i; more = omega arith; reached = g.reached }
+
   -- there is a start for each that is left
   pub there_is_one : {P : Type 0} → i < min n c.blocks → (p' : Planner) → Answers (load_of c table) None p' g.from (step (load_of c table) s) → P
   unfolding Answers
@@ -205,12 +208,12 @@ module _ {c : Counts} {n : ℕ} {table : List ℕ} {fs₀ : List FlowRecord} {ws
       let short = dominant_within (g.accepted.each row.block within.block) in
       let room : 15 * i + 15 ≤ length ws = omega arith in
       let at = step_row L s q is in
-      let left : min n c.blocks - i - 1 ≡ min n c.blocks - (i + 1) = omega arith in
+      let fewer : left - 1 ≡ min n c.blocks - (i + 1) = omega arith in
       let place : 15 * i + 15 ≡ 15 * (i + 1) = omega arith in
-      let to_come : run L (min n c.blocks - i) s ≡ row ∷ run L (min n c.blocks - (i + 1)) q.then = rw left at (run_next L (min n c.blocks - i) s q (omega arith) is) in
+      let to_come : run L left s ≡ row ∷ run L (min n c.blocks - (i + 1)) q.then = rw fewer at (run_next L left s q (omega arith) is) in
       record {
         flow = omega (arith, within.flow, g.flows_room);
-        fits = rw timed (row_fits table c.flows (min n c.blocks - i) p.core.turns fs row within.flow short g.records_room);
+        fits = rw timed (row_fits table c.flows left p.core.turns fs row within.flow short g.records_room);
         held = omega (arith, g.few_held, one_most (ltb 0 row.hold), g.accepted.blocks);
         ticks = omega (arith, g.few_ticks, within.hold, g.accepted.blocks);
         goes =
@@ -224,7 +227,7 @@ module _ {c : Counts} {n : ℕ} {table : List ℕ} {fs₀ : List FlowRecord} {ws
               few_held = omega (arith, held, g.few_held, one_most (ltb 0 row.hold));
               few_ticks = omega (arith, ticks, g.few_ticks, within.hold, g.accepted.blocks);
               flows_room = rw length-set g.flows_room;
-              records_room = rw (← left) (row_added table c.flows (min n c.blocks - i) p.core.turns fs row within.flow short g.records_room (omega arith) g.flows_room);
+              records_room = rw (← fewer) (row_added table c.flows left p.core.turns fs row within.flow short g.records_room (omega arith) g.flows_room);
               rows_room = rw (length_over ws (15 * i) (row_words row) 15 refl room) g.rows_room;
               ends = rw (← place) (row_further c n table fs₀ ws₀ _ _ _ _ (15 * i) fs ws row _ sum at.turn room (rw to_come at g.ends));
             });
@@ -234,5 +237,5 @@ module _ {c : Counts} {n : ℕ} {table : List ℕ} {fs₀ : List FlowRecord} {ws
   pub goes_ends : i ≡ min n c.blocks → Plans c n table fs₀ ws₀ (Ok (summary_of c.stages (min n c.blocks) p.core t)) fs ws
   unfolding records summary run
   goes_ends all =
-      let none : min n c.blocks - i ≡ 0 = omega arith in
+      let none : left ≡ 0 = omega arith in
       rw (← written_none (15 * i) ws, ← all) (rw none at g.ends)

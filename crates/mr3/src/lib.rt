@@ -29,6 +29,7 @@ pub fn plan(
     let mut tally = Tally::default();
     let listed = accept::listed(limit, counts.blocks);
     for i in 0..listed {
+        // By the turns before it a start tells whether it begins one.
         let turns = planner.core.turns;
         let Some(start) = step::step(&load, &mut planner) else {
             // This is never reached: there is a start for each block that is listed.

@@ -5,7 +5,7 @@ ghost use Rattle.plan.specs.Inputs.{Taken, Within};
 use std::io;
 use std::io::{Read, Write};
 
-// Reads until the input ends or the room for it is full.
+// Reads until the input ends or the room for it is full; `read_exact` fails where the input ends first.
 pub fn read<R: Read>(from: &mut R, file: &mut [u8]) -> io::Result<usize>
     ensures within { Within (length file.old) result }
     ensures taken { Taken (R.remaining from.old) (R.remaining from.new) file.new result }

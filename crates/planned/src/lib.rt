@@ -17,7 +17,10 @@ fn lend(
     let rows = rows.get_mut(..given.row_words).ok_or(BadCase)?;
     table::mark(rows, 6_000_000_000);
     let planned = mr3::plan(given.counts, given.limit, blocks, flows, rows);
-    answer::put(out, planned, flows, rows);
+    let mut counts = [0; 6];
+    let number = words::put(planned, &mut counts);
+    answer::put(out, b"plan", number, &counts);
+    answer::put_tables(out, flows, rows);
     Ok(())
 }
 

@@ -1,73 +1,46 @@
 -- Laws of one record: what its tests say of one that is read, and that it lies within the bytes given.
 use Prim.Native.Nat.{ℕ, ◌+◌, ◌*◌, ◌≤◌, ◌<◌}
-use mathlib.Core.Bool.{Bool, true, false}
 use mathlib.Core.List.{List}
 use mathlib.Core.Path.{◌≡◌, refl}
 use native.Mathlib.Omega.{arith}
-use borrow.Author.Tests.{ltb-false, leb-false}
-use lib.Dec.{ltb}
-use lib.ListN.{length, get_or}
+use lib.ListN.{length}
 use Rattle.std.specs.Prelude.{Ok, Err}
 use Rattle.load.specs.declared.block.Block.{Block}
 use Rattle.load.specs.declared.counts.Counts.{Counts}
-use Rattle.load.specs.declared.refusal.Refusal.{Refusal}
 use Rattle.load.specs.Refusals.{Verdict}
-use Rattle.load.proofs.Cases.{or_false}
 use Rattle.records.specs.Answers.{block_found}
 use Rattle.records.specs.Records.{Parsed, Walk, refused, parsed, stop_if, unless, measure, flow_measured, flow_record, block_in, block_measured, block_record}
-
--- what a chain of tests that lets a record pass says of each test
-stop_passed : (b : Bool) (r : Refusal) (w : Walk) (at : ℕ) → stop_if b r w ≡ Ok at → (b ≡ false) × (w ≡ Ok at)
-unfolding stop_if
-stop_passed true r w at e = let z : ◌≡◌ {A = ℕ} 0 1 = cc in absurd (omega arith)
-stop_passed false r w at e = (refl, e)
 
 pub unless_passed : {A : Type 0} (v : Verdict) (p : Parsed A) (a : A) (at : ℕ) → unless v p ≡ parsed a at → (v ≡ Ok tt) × (p ≡ parsed a at)
 unfolding unless
 unless_passed (Ok _) p a at e = (refl, e)
-unless_passed (Err r) p a at e = let z : ◌≡◌ {A = ℕ} 0 1 = cc in absurd (omega arith)
+unless_passed (Err r) p a at e = grind arith
 
 -- a record that is measured has its length byte, between the bounds, and lies within the bytes given
 pub measure_within : (least most : ℕ) (rest : List ℕ) (next : ℕ) → measure least most rest ≡ Ok next → (least < next) × (next ≤ most + 1) × (next ≤ length rest)
-unfolding measure
-measure_within least most rest next e =
-    let n = get_or rest 0 0 in
-    let there = stop_passed _ _ _ _ e in
-    let right = stop_passed _ _ _ _ there.1 in
-    let whole = stop_passed _ _ _ _ right.1 in
-    let bounds = or_false (ltb n least) (ltb most n) right.0 in
-    let last : Ok (1 + n) ≡ Ok next = whole.1 in
-    let size : 1 + n ≡ next = cc in
-    omega (arith, ltb-false n least bounds.0, ltb-false most n bounds.1, leb-false (length rest) n whole.0)
+unfolding measure stop_if
+measure_within least most rest next e = grind arith
 
 -- a flow record that is read is measured
 pub flow_record_reads : (rest : List ℕ) (size : ℕ) → flow_record rest ≡ Ok size → measure 0 31 rest ≡ Ok size
-unfolding flow_record flow_measured
+unfolding flow_record flow_measured stop_if
 flow_record_reads rest size e = go (measure 0 31 rest) e where
   go : (w : Walk) → flow_measured rest w ≡ Ok size → w ≡ Ok size
-  go (Err r) e = let z : ◌≡◌ {A = ℕ} 0 1 = cc in absurd (omega arith)
-  go (Ok next) e = (stop_passed _ _ _ _ e).1
+  go (Err r) e = grind arith
+  go (Ok next) e = grind arith
 
 -- a block record that is read has this size, lies within the bytes given, and holds the block that its bytes say
 pub block_record_reads : (c : Counts) (above : ℕ) (rest : List ℕ) (b : Block) (size : ℕ) → block_record c above rest ≡ parsed b size
     → (size ≡ 7 + 4 * c.stages) × (size ≤ length rest) × (b ≡ block_in c.stages rest)
-unfolding block_record block_measured
+unfolding block_record block_measured unless
 block_record_reads c above rest b size e = go (measure (6 + 4 * c.stages) (6 + 4 * c.stages) rest) refl e where
   go : (w : Walk) → measure (6 + 4 * c.stages) (6 + 4 * c.stages) rest ≡ w → block_measured c above rest w ≡ parsed b size → (size ≡ 7 + 4 * c.stages) × (size ≤ length rest) × (b ≡ block_in c.stages rest)
-  go (Err r) m e = let z : ◌≡◌ {A = ℕ} 0 1 = cc in absurd (omega arith)
-  go (Ok next) m e =
-      let read : parsed (block_in c.stages rest) next ≡ parsed b size = (unless_passed _ _ _ _ e).1 in
-      let same : next ≡ size = cc in
-      let within = measure_within _ _ _ _ m in
-      (omega arith, omega arith, cc)
+  go (Err r) m e = grind arith
+  go (Ok next) m e = grind (arith, measure_within)
 
 pub block_found_reads : (c : Counts) (above : ℕ) (rest : List ℕ) (b : Block) → block_found (block_record c above rest) ≡ Ok b → block_record c above rest ≡ parsed b (7 + 4 * c.stages)
 unfolding block_found
 block_found_reads c above rest b e = go (block_record c above rest) refl e where
   go : (p : Parsed Block) → block_record c above rest ≡ p → block_found p ≡ Ok b → p ≡ parsed b (7 + 4 * c.stages)
-  go (refused q) m e = let z : ◌≡◌ {A = ℕ} 0 1 = cc in absurd (omega arith)
-  go (parsed b' size) m e =
-      let read = block_record_reads c above rest b' size m in
-      let long : size ≡ 7 + 4 * c.stages = read.0 in
-      let same : b' ≡ b = cc in
-      cc
+  go (refused q) m e = grind arith
+  go (parsed b' size) m e = grind (arith, block_record_reads)

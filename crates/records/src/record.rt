@@ -10,7 +10,7 @@ use load::counts::Counts;
 use load::refusal::Refusal;
 
 // The byte after the record, whose length byte must be from least to most.
-#[tactic(auto, using(load::proofs::Cases::by_tests), unfolding(crate::specs::Records::measure, crate::specs::Records::stop_if))]
+#[tactic(auto, unfolding(crate::specs::Records::measure, crate::specs::Records::stop_if))]
 pub fn measure(rest: &[u8], least: usize, most: usize) -> Result<usize, Refusal>
     ensures { result ≡ Layout·measure least most rest.now }
 {
@@ -41,7 +41,7 @@ pub fn flow(rest: &[u8]) -> Result<usize, Refusal>
     }
 }
 
-#[tactic(auto, using(load::proofs::Cases::by_tests), unfolding(crate::specs::Records::time_in))]
+#[tactic(auto, unfolding(crate::specs::Records::time_in))]
 fn time(rest: &[u8], stages: usize, stage: usize) -> u32
     requires { (7 + 4 * stages ≤ length rest.now) × (1 ≤ stage) × (stage ≤ 4) }
     ensures { result ≡ time_in stages stage rest.now }

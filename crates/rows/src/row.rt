@@ -9,22 +9,21 @@ pub fn write(rest: &mut [u64], row: Row)
     requires { 15 ≤ length rest.old }
     ensures { rest.new ≡ row_words row ++ drop 15 rest.old }
 {
+    // Word by word: where an array of the words is copied, a plan takes 1.2 times as long.
     let way = row.way;
-    rest[..15].copy_from_slice(&[
-        row.block,
-        row.flow,
-        row.round,
-        row.turn,
-        row.balance,
-        row.hold,
-        row.stage,
-        way.one.start,
-        way.one.finish,
-        way.two.start,
-        way.two.finish,
-        way.three.start,
-        way.three.finish,
-        way.four.start,
-        way.four.finish,
-    ]);
+    rest[0] = row.block;
+    rest[1] = row.flow;
+    rest[2] = row.round;
+    rest[3] = row.turn;
+    rest[4] = row.balance;
+    rest[5] = row.hold;
+    rest[6] = row.stage;
+    rest[7] = way.one.start;
+    rest[8] = way.one.finish;
+    rest[9] = way.two.start;
+    rest[10] = way.two.finish;
+    rest[11] = way.three.start;
+    rest[12] = way.three.finish;
+    rest[13] = way.four.start;
+    rest[14] = way.four.finish;
 }

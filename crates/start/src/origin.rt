@@ -44,15 +44,14 @@ pub fn origin(load: &Load<'_>) -> Planner
     ensures state { state_of result (replicate most 0) ≡ Plan·origin (the_load load.now) }
     ensures follows { Follows (the_load load.now) (replicate most 0) result.queues }
 {
-    let mut queues = Queues::new();
-    queues.link(load);
     let mut planner = Planner {
         mode: Mode::Idle,
         core: nothing(),
         list: Waiting::new(),
-        queues,
+        queues: Queues::new(),
         gate: [0; 64],
     };
+    planner.queues.link(load);
     arrivals::up_to(load, &mut planner, 0);
     planner
 }

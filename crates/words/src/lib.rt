@@ -8,7 +8,7 @@ use load::counts::Counts;
 use load::refusal::Refusal;
 use rules::answer::Summary;
 
-// What is counted in so many words.
+// What an answer counts, in N words.
 pub trait InWords<const N: usize>: Copy {
     ghost in_words: { Self → List ℕ };
 
@@ -41,7 +41,7 @@ impl InWords<6> for Summary {
     }
 }
 
-// The number of an answer; what it counts is left in the words.
+// Document 01's number for an answer. What the answer counts is written into the words: zeros after a refusal.
 pub fn put<const N: usize, T: InWords<N>>(answer: Result<T, Refusal>, words: &mut [u64; N]) -> u64
     ensures number { result ≡ number_in answer }
     ensures counts { words.new ≡ words_in T.in_words N answer }

@@ -3,7 +3,7 @@ use mathlib.Core.Path.{sym}
 use native.Mathlib.Omega.{arith}
 use lib.Seq.{length-take-le}
 use Rattle.std.proofs.lemmas.Result.{err_from_is_err_and}
-use Rattle.mr3.proofs.Goes.{flows_there, goes_ends, goes_first, goes_on, On, refused, there_is_one}
+use Rattle.mr3.proofs.Goes.{flows_there, goes_ends, goes_first, goes_on, goes_ready, On, refused, there_is_one}
 use Rattle.mr3.proofs.plan.Goals as goal
 use Rattle.mr3.proofs.plan.Goals.{In-Some, else-loop-i-test, then-loop-i-test+in_default}
 
@@ -22,6 +22,11 @@ loop-i-init c =
     let lent = c.in_ok-load.ensures.lent in
     let origin = c.origin-planner.ensures in
     goes_first _ _ _ _ _ c.in_ok-load.ensures.accepted _ (rw (lent.0, lent.1) at origin.state) (rw (lent.0, lent.1) at origin.follows) _ c.default-tally.ensures _ c.empty.ensures
+
+pub step-requires : goal.step-requires
+step-requires c =
+    let lent = c.in_ok-load.ensures.lent in
+    rw (lent.0, lent.1) (record { steps = goes_ready c.loop-i.invariant (omega arith) })
 
 -- what is noted and counted of this start
 on : (c : In-Some) → On c.args.counts c.args.limit c.args.blocks.now c.args.flows.now c.args.rows.now c.loop-i.i c.loop-i.planner c.loop-i.tally c.loop-i.flows c.loop-i.rows c.in-Some.start c.step.new.planner
