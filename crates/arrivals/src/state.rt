@@ -7,7 +7,7 @@ use waiting::Waiting;
 
 // What goes on whatever the mode: the clock, how many blocks of the table have arrived, the round, the turns begun, and the way
 // of the block started last.
-#[derive(Clone, Copy)]
+#[derive(Clone, Copy, Debug, Default, PartialEq, Eq)]
 pub struct Core {
     pub clock: u64,
     pub next: usize,

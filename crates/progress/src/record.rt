@@ -11,11 +11,7 @@ use rules::row::Row;
 pub fn empty(flows: &mut [FlowRecord])
     ensures { flows.new ≡ replicate (length flows.old) unlisted }
 {
-    flows.fill(FlowRecord {
-        blocks: 0,
-        turns: 0,
-        time: 0,
-    });
+    flows.fill(FlowRecord::default());
 }
 
 // Notes a row in its flow's record, after one of the turn `before`: its block, the turn if the row is its first, and the block's

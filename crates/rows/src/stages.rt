@@ -6,12 +6,6 @@ ghost use Rattle.rules.specs.Within.{WayWithin};
 use load::block::Block;
 use rules::stages::{Span, Way};
 
-// At a stage that the load lacks a block has no run.
-pub const NO_RUN: Span = Span {
-    start: 0,
-    finish: 0,
-};
-
 // The later of two ticks.
 pub fn later(a: u64, b: u64) -> u64
     ensures { result ≡ max a b }
@@ -31,7 +25,8 @@ fn run_after(own: u64, before: u64, time: u32) -> Span
     }
 }
 
-// The way of a block that starts at a tick, after a block whose way was `before`. It ends at the load's last stage.
+// The way of a block that starts at a tick, after a block whose way was `before`. It ends at the load's last stage: at those that the
+// load lacks there is no run.
 #[tactic(auto, unfolding(rules::specs::Stages::way_of, rules::specs::Stages::later_run))]
 pub fn pass(stages: usize, before: Way, start: u64, block: Block) -> Way
     requires { (start ≤ 1_000_000_000_000) × (WayWithin before 1_000_000_000_000) }
@@ -43,9 +38,7 @@ pub fn pass(stages: usize, before: Way, start: u64, block: Block) -> Way
     };
     let mut way = Way {
         one,
-        two: NO_RUN,
-        three: NO_RUN,
-        four: NO_RUN,
+        ..Way::default()
     };
     if stages < 2 {
         return way;

@@ -9,34 +9,15 @@ ghost use Rattle.start.specs.Next.{at_first};
 use accept::accepted::Load;
 use arrivals::state::{Core, Planner};
 use queues::Queues;
-use rows::stages::NO_RUN;
 use rules::mode::Mode;
-use rules::round::Round;
-use rules::stages::Way;
 use waiting::Waiting;
 
-// The core before anything has arrived.
+// The core before anything has arrived: no block, no round and no turn, and no stage has run.
 #[tactic(auto, unfolding(rules::specs::Plan::none_yet, crate::specs::Next::at_first))]
 fn nothing() -> Core
     ensures { result ≡ at_first }
 {
-    Core {
-        clock: 0,
-        next: 0,
-        round: Round {
-            number: 0,
-            left: 0,
-            credit: 0,
-            most: 0,
-        },
-        turns: 0,
-        way: Way {
-            one: NO_RUN,
-            two: NO_RUN,
-            three: NO_RUN,
-            four: NO_RUN,
-        },
-    }
+    Core::default()
 }
 
 // The planner at tick 0, with the arrivals of that tick.
