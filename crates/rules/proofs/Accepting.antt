@@ -27,9 +27,7 @@ use Rattle.rules.specs.Within.{Accepted}
 -- a block's words are the first six of a table
 block_of-append : (w more : List ℕ) → length w ≡ 6 → block_of (w ++ more) ≡ block_of w
 unfolding block_of
-block_of-append w more six =
-    let e = get_or_append_left w more 0 in
-    simp (e 0 (omega arith), e 1 (omega arith), e 2 (omega arith), e 3 (omega arith), e 4 (omega arith), e 5 (omega arith))
+block_of-append w more six = grind (arith, get_or_append_left)
 
 module _ (c : Counts) (above : ℕ) where
   -- no block left, or one
