@@ -20,10 +20,13 @@ number_of OutOfOrder = 11
 abbrev pub Verdict : Type 0
 Verdict = Result (Unit {0}) Refusal
 
--- An accepted call gives number 0.
+-- An answer's number: an accepted call gives 0.
+abbrev pub number_in : {A : Type 0} → Result A Refusal → ℕ
+number_in (Ok a) = 0
+number_in (Err r) = number_of r
+
 abbrev pub verdict_number : Verdict → ℕ
-verdict_number (Ok _) = 0
-verdict_number (Err r) = number_of r
+verdict_number verdict = number_in verdict
 
 -- `given b r next`: refusal r where b holds, and otherwise what comes next. The first that applies is given.
 unfoldable pub given : Bool → Refusal → Verdict → Verdict

@@ -2,7 +2,7 @@
 ghost use Rattle.std.specs.Prelude.{◌≡◌, ◌++◌, ◌≤◌, length, drop};
 ghost use Rattle.load.specs.Blocks.{block_of, words_of};
 
-// Times of stages that the load lacks are 0.
+// Times of stages that the load lacks are 0. The definitions of the plan name the four times one by one, so they are no array.
 #[derive(Clone, Copy, Debug, PartialEq, Eq)]
 pub struct Block {
     pub flow: u32,
@@ -14,7 +14,7 @@ pub struct Block {
 }
 
 impl Block {
-    // The block at the start of these words. The caller knows that six are there.
+    // The block at the start of these words. The caller knows that six are there, and `From` could not ask it.
     #[tactic(auto, unfolding(crate::specs::Blocks::block_of))]
     pub fn at(words: &[u32]) -> Block
         requires { 6 ≤ length words.now }

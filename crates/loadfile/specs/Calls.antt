@@ -3,7 +3,7 @@ use Rattle.std.specs.Prelude.{ℕ, ◌*◌, ◌≡◌, false, cond, List, ◌++�
 use Rattle.std.specs.Borrow.{Bor}
 use Rattle.load.specs.declared.counts.Counts.{Counts}
 use Rattle.load.specs.declared.refusal.Refusal.{Refusal}
-use Rattle.load.specs.Refusals.{Verdict, number_of}
+use Rattle.load.specs.Refusals.{number_in, Verdict}
 use Rattle.records.specs.Answers.{verdict_of}
 use Rattle.records.specs.Parts.{Part, bytes_in, empty, place_in}
 use Rattle.records.specs.Records.{Parsed, refused, parsed}
@@ -24,8 +24,7 @@ reading file table = file_with (λ c. ltb (length table) (6 * c.blocks)) file
 
 -- document 01's number and counts for each answer
 abbrev pub answer_number : Result Counts Refusal → ℕ
-answer_number (Err r) = number_of r
-answer_number (Ok c) = 0
+answer_number answer = number_in answer
 
 abbrev pub answer_counts : Result Counts Refusal → Counts
 answer_counts (Err r) = record { stages = 0; flows = 0; blocks = 0 }

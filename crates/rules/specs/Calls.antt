@@ -4,7 +4,7 @@ use Rattle.load.specs.declared.counts.Counts.{Counts}
 use Rattle.load.specs.declared.refusal.Refusal.{Refusal}
 use Rattle.load.specs.declared.refusal.Refusal.TheVariants.{ShortTable}
 use Rattle.load.specs.Blocks.{block_of}
-use Rattle.load.specs.Refusals.{given, number_of, Verdict}
+use Rattle.load.specs.Refusals.{given, number_in, Verdict}
 use Rattle.limits.specs.Tests.{block_verdict, counts_verdict}
 use Rattle.rules.specs.declared.answer.Summary.{Summary}
 use Rattle.rules.specs.declared.record.FlowRecord.{FlowRecord}
@@ -38,8 +38,7 @@ plan_verdict c n table flow_records row_words =
 
 -- document 01's number and values for each answer
 abbrev pub answer_number : Result Summary Refusal → ℕ
-answer_number (Err r) = number_of r
-answer_number (Ok s) = 0
+answer_number answer = number_in answer
 
 abbrev pub answer_summary : Result Summary Refusal → Summary
 answer_summary (Err r) = none

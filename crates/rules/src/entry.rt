@@ -1,5 +1,5 @@
 // An entry of the list of waiting flows, with the flow's excess.
-#[derive(Clone, Copy, Debug, PartialEq, Eq)]
+#[derive(Clone, Copy, Debug, Default, PartialEq, Eq)]
 pub struct Entry {
     pub flow: usize,
     pub excess: u64,

@@ -7,7 +7,8 @@ use Rattle.loadfile.specs.Calls as reader
 use Rattle.rules.specs.declared.answer.Summary.{Summary}
 use Rattle.rules.specs.Calls as planner
 use Rattle.rules.specs.Counts.{none}
-use Rattle.words.specs.Words.{count_words, number_in, summary_words, words_in}
+use Rattle.load.specs.Refusals.{number_in}
+use Rattle.words.specs.Words.{count_words, summary_words, words_in}
 
 pub put_read : (answer : Result Counts Refusal) (number : ℕ) (words : List ℕ) → number ≡ number_in answer → words ≡ words_in count_words 3 answer
     → (number ≡ reader.answer_number answer) × (words ≡ count_words (reader.answer_counts answer))

@@ -2,7 +2,6 @@
 use Rattle.std.specs.Prelude.{ℕ, List, [], ◌∷◌, replicate, Result, Ok, Err}
 use Rattle.load.specs.declared.counts.Counts.{Counts}
 use Rattle.load.specs.declared.refusal.Refusal.{Refusal}
-use Rattle.load.specs.Refusals.{number_of}
 use Rattle.rules.specs.declared.answer.Summary.{Summary}
 
 abbrev pub count_words : Counts → List ℕ
@@ -12,11 +11,6 @@ abbrev pub summary_words : Summary → List ℕ
 summary_words s = s.blocks ∷ s.turns ∷ s.rounds ∷ s.held ∷ s.ticks ∷ s.end ∷ []
 
 module _ {A : Type 0} where
-  -- An accepted call gives number 0.
-  abbrev pub number_in : Result A Refusal → ℕ
-  number_in (Ok a) = 0
-  number_in (Err r) = number_of r
-
   -- A refusal counts nothing, in n words.
   abbrev pub words_in : (A → List ℕ) → ℕ → Result A Refusal → List ℕ
   words_in f n (Ok a) = f a

@@ -2,7 +2,8 @@
 #![tactic(auto)]
 
 ghost use Rattle.std.specs.Prelude.{◌≡◌, ℕ, List};
-ghost use Rattle.words.specs.Words.{count_words, number_in, summary_words, words_in};
+ghost use Rattle.load.specs.Refusals.{number_in};
+ghost use Rattle.words.specs.Words.{count_words, summary_words, words_in};
 
 use load::counts::Counts;
 use load::refusal::Refusal;
