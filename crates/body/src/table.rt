@@ -15,6 +15,7 @@ pub fn fill(file: &[u8], counts: Counts, from: usize, table: &mut [u32])
         ≡ table_words (list_of (block_records file.now counts 0 counts.blocks from)) ++ drop (6 * counts.blocks) table.old }
 {
     let size = 7 + 4 * counts.stages;
+    // The table isn't lent out in chunks of six, since a proof would know the length alone of what a chunk leaves.
     for (place, record) in file[from..].chunks_exact(size).enumerate() {
         record::fields(record, counts.stages).put(&mut table[6 * place..]);
     }

@@ -1,4 +1,5 @@
 // The records one after the other.
+// Each function asks only what it needs, `own_name` no stages and `table::fill` no header, so no one type serves all.
 ghost use Rattle.std.specs.Prelude.{◌≡◌, ◌≤◌, length};
 ghost use Rattle.records.specs.Records.{block_records, flow_records};
 ghost use Rattle.records.specs.Answers.{walk_of};

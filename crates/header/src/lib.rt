@@ -16,8 +16,8 @@ pub fn counts(file: &[u8]) -> Counts
 {
     Counts {
         stages: usize::from(file[5]),
-        flows: two(file, 6) as usize,
-        blocks: two(file, 8) as usize,
+        flows: usize::from(two(file, 6)),
+        blocks: usize::from(two(file, 8)),
     }
 }
 

@@ -12,7 +12,7 @@ use Rattle.records.proofs.record.measure.Reads as measure
 use Rattle.records.proofs.standing.entry.Reads as entry
 
 pub two_once : OneAnswer two.Post
-two_once κs a r r' s s' p q = p.0 ∙ sym q.0
+two_once κs a r r' s s' p q = p ∙ sym q
 
 pub four_once : OneAnswer four.Post
 four_once κs a r r' s s' p q = p ∙ sym q

@@ -1,13 +1,13 @@
 // Big-endian numbers.
-ghost use Rattle.std.specs.Prelude.{◌≡◌, ◌+◌, ◌<◌, ◌≤◌, length};
+ghost use Rattle.std.specs.Prelude.{◌≡◌, ◌+◌, ◌≤◌, length};
 ghost use Rattle.records.specs.Records.{four_bytes, two_bytes};
 
 #[tactic(auto, unfolding(crate::specs::Records::two_bytes))]
-pub fn two(bytes: &[u8], at: usize) -> u32
+pub fn two(bytes: &[u8], at: usize) -> u16
     requires { at + 2 ≤ length bytes.now }
-    ensures { (result ≡ two_bytes bytes.now at) × (result < 65536) }
+    ensures { result ≡ two_bytes bytes.now at }
 {
-    u32::from(u16::from_be_bytes([bytes[at], bytes[at + 1]]))
+    u16::from_be_bytes([bytes[at], bytes[at + 1]])
 }
 
 #[tactic(auto, unfolding(crate::specs::Records::four_bytes, crate::specs::Records::two_bytes))]

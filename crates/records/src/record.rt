@@ -53,14 +53,14 @@ fn time(rest: &[u8], stages: usize, stage: usize) -> u32
     }
 }
 
-// The block in a record that is whole.
+// The block in a record that is whole. The caller knows that it is, and `From` could not ask it.
 #[tactic(auto, unfolding(crate::specs::Records::block_in))]
 pub fn fields(rest: &[u8], stages: usize) -> Block
     requires { 7 + 4 * stages ≤ length rest.now }
     ensures { result ≡ block_in stages rest.now }
 {
     Block {
-        flow: two(rest, 1),
+        flow: u32::from(two(rest, 1)),
         arrival: four(rest, 3),
         time1: time(rest, stages, 1),
         time2: time(rest, stages, 2),
