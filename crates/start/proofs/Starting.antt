@@ -1,17 +1,16 @@
 -- A start, put together from its parts: the block that is due, its row, and the planner after it.
 use Prim.Native.Nat.{ℕ, ◌≤◌, ◌<◌}
 use mathlib.Core.List.{List, []}
-use mathlib.Core.Option.{some}
+use mathlib.Core.Option.{map, none, some}
 use mathlib.Core.Path.{◌≡◌, refl, ap, subst, sym, ◌∙◌}
 use native.Mathlib.Omega.{arith}
 use lib.ListN.{set}
-use Rattle.std.specs.Prelude.{None, Some}
+use Rattle.std.specs.Prelude.{Bool, cond, false, None, Some, true}
 use Rattle.dominant.specs.Dominant.{dominant_time}
-use Rattle.rules.specs.declared.mode.Mode.TheVariants.{InTurn}
 use Rattle.rules.specs.declared.mode.Turn.{Turn}
 use Rattle.rules.specs.declared.row.Row.{Row}
 use Rattle.rules.specs.Load.{block_at, Load}
-use Rattle.rules.specs.Plan.{after, begins, Core, first, further, oldest, row_of, Started, started, State}
+use Rattle.rules.specs.Plan.{after, begins, Core, first, oldest, row_of, Started, State, state, up_to, waits, where_waits}
 use Rattle.rules.specs.Stages.{last_run}
 use Rattle.rules.specs.Within.{Accepted}
 use Rattle.rules.proofs.Blocks.{dominant_within}
@@ -20,7 +19,7 @@ use Rattle.arrivals.specs.declared.state.Planner.{Planner}
 use Rattle.arrivals.specs.State.{core_of, state_of}
 use Rattle.decide.proofs.Deciding.{starts, starts_not, the_oldest}
 use Rattle.start.specs.declared.step.Start.{Start}
-use Rattle.start.specs.Next.{Answers, past}
+use Rattle.start.specs.Next.{Answers, oldest_started, past}
 use Rattle.start.specs.Starting.{Due}
 
 -- the row of a flow's oldest block that waits
@@ -51,13 +50,9 @@ module _ (L : Load) (p : Planner) (t : Turn) (from : List ℕ) (follows : Follow
   c = core_of p from
 
   -- no block waits
-  pub no_further : (q : Planner) → p.core.next ≤ oldest_in p.queues t.flow → Answers L None q from (started L (InTurn t) c)
-  unfolding Answers started
-  no_further q none = starts_not L c p.queues follows arrived t.flow below _ refl _ none
-
-  pub no_first : (q : Planner) (hold : ℕ) → p.core.next ≤ oldest_in p.queues t.flow → Answers L None q from (begins L c t hold)
-  unfolding Answers begins
-  no_first q hold none = starts_not L c p.queues follows arrived t.flow below _ refl _ none
+  pub none_starts : (q : Planner) (hold : ℕ) → p.core.next ≤ oldest_in p.queues t.flow → Answers L None q from (oldest_started L c t hold)
+  unfolding Answers oldest_started
+  none_starts q hold empty = starts_not L c p.queues follows arrived t.flow below _ refl _ empty
 
   -- q is the planner after start s
   module _ (s : Start) (due : Due L p t s) (q : Planner) where
@@ -67,16 +62,44 @@ module _ (L : Load) (p : Planner) (t : Turn) (from : List ℕ) (follows : Follow
     abbrev then : State
     then = state_of q (past from s.row)
 
-    pub makes_further : s.row ≡ row_of L c t 0 s.row.block → (then ≡ after L c t c.gate s.row) × Follows L (past from s.row) q.queues → Answers L (Some s) q from (started L (InTurn t) c)
-    unfolding Answers started further
-    makes_further row made =
-        let is : started_by s.row then ≡ further L c t = ap (started_by s.row) made.0 ∙ ap (λ (r : Row). started_by r (after L c t c.gate r)) (found 0 row) in
+    pub oldest_starts : (hold : ℕ) → s.row ≡ row_of L c t hold s.row.block → (then ≡ after L c t c.gate s.row) × Follows L (past from s.row) q.queues
+        → Answers L (Some s) q from (oldest_started L c t hold)
+    unfolding Answers oldest_started
+    oldest_starts hold row made =
+        let is = ap (started_by s.row) made.0 ∙ ap (λ (r : Row). started_by r (after L c t c.gate r)) (found hold row) in
         (starts L c p.queues follows arrived t.flow below s.row.block due.oldest _ due.waits ∙ sym (ap some is), due.time, made.1)
 
-    pub makes_first : (hold : ℕ) → s.row ≡ row_of L c t hold s.row.block → (then ≡ after L c t (set c.gate t.flow (last_run L.counts.stages s.row.way).start) s.row) × Follows L (past from s.row) q.queues
-        → Answers L (Some s) q from (begins L c t hold)
-    unfolding Answers begins first
-    makes_first hold row made =
-        let gate = λ (r : Row). set c.gate t.flow (last_run L.counts.stages r.way).start in
-        let is : started_by s.row then ≡ first L c t hold = ap (started_by s.row) made.0 ∙ ap (λ (r : Row). started_by r (after L c t (gate r) r)) (found hold row) in
-        (starts L c p.queues follows arrived t.flow below s.row.block due.oldest _ due.waits ∙ sym (ap some is), due.time, made.1)
+-- The first start of a turn sets its flow's gate: the next turn will wait until this block starts at the last stage.
+gated : Load → Turn → Started → Started
+gated L t s = record {
+  row = s.row;
+  then = record {
+    mode = s.then.mode;
+    core = record {
+      clock = s.then.core.clock;
+      line = s.then.core.line;
+      round = s.then.core.round;
+      turns = s.then.core.turns;
+      from = s.then.core.from;
+      gate = set s.then.core.gate t.flow (last_run L.counts.stages s.row.way).start;
+      way = s.then.core.way;
+    };
+  };
+}
+
+gated_where : (b : Bool) (f : Started → Started) (s : Started) → cond b (some (f s)) none ≡ map f (cond b (some s) none)
+gated_where true f s = refl
+gated_where false f s = refl
+
+begins_gated : (L : Load) (c : Core) (t : Turn) (hold : ℕ) → begins L c t hold ≡ map (gated L t) (oldest_started L c t hold)
+unfolding begins oldest_started where_waits first after up_to state gated
+begins_gated L c t hold = gated_where (waits L c t.flow) (gated L t) _
+
+pub begins_not : (L : Load) (t : Turn) (hold : ℕ) (p q : Planner) (from : List ℕ) (c : Core) → Answers L None p from (oldest_started L c t hold) → Answers L None q from (begins L c t hold)
+unfolding Answers
+begins_not L t hold p q from c empty = begins_gated L c t hold ∙ ap (map (gated L t)) empty
+
+pub begins_with : (L : Load) (t : Turn) (hold : ℕ) (s : Start) (p : Planner) (from : List ℕ) (c : Core) → Answers L (Some s) p from (oldest_started L c t hold)
+    → Answers L (Some s) (record p { gate = set p.gate t.flow (last_run L.counts.stages s.row.way).start }) from (begins L c t hold)
+unfolding Answers gated
+begins_with L t hold s p from c made = (begins_gated L c t hold ∙ ap (map (gated L t)) made.0, made.1, made.2)

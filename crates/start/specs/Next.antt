@@ -2,6 +2,7 @@
 use Rattle.std.specs.Prelude.{ℕ, ◌+◌, List, ◌≡◌, set, Option, None, Some}
 use Rattle.std.proofs.Math.Option.{Option as OptionOf, none, some}
 use Rattle.dominant.specs.Dominant.{dominant_time}
+use Rattle.rules.specs.declared.mode.Turn.{Turn}
 use Rattle.rules.specs.declared.row.Row.{Row}
 use Rattle.rules.specs.Load.{block_at, Load}
 use Rattle.rules.specs.Plan as plan
@@ -22,6 +23,12 @@ Answers L (Some s) p from o =
     (o ≡ some (record { row = s.row; then = state_of p (past from s.row) }))
     × (s.time ≡ dominant_time (block_at L.table s.row.block))
     × Follows L (past from s.row) p.queues
+
+-- the start of the oldest block of the flow in its turn, with this hold, where the gates stay
+unfoldable pub oldest_started : Load → plan.Core → Turn → ℕ → OptionOf plan.Started
+oldest_started L c t hold =
+    let r = plan.row_of L c t hold (plan.oldest L c t.flow) in
+    plan.where_waits L c t.flow (record { row = r; then = plan.after L c t c.gate r })
 
 -- nothing has arrived
 unfoldable pub at_first : Core

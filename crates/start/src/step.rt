@@ -1,14 +1,14 @@
 // One start.
 ghost use Rattle.std.specs.Prelude.{◌≡◌, List, ℕ, ◌≤◌, ◌<◌, IfNone, IfSome};
 ghost use Rattle.dominant.specs.Dominant.{dominant_time};
-ghost use Rattle.rules.specs.declared.mode.Mode.TheVariants.{Holds, InTurn};
+ghost use Rattle.rules.specs.declared.mode.Mode.TheVariants.{Holds};
 ghost use Rattle.rules.specs.Load.{block_at};
-ghost use Rattle.rules.specs.Plan.{after as Plan·after, begins, begun, row_of, started, step as Plan·step, up_to};
+ghost use Rattle.rules.specs.Plan.{after as Plan·after, begun, row_of, started, step as Plan·step, up_to};
 ghost use Rattle.accept.specs.Loads.{the_load};
 ghost use Rattle.queues.specs.Queues.{Follows, oldest_in};
 ghost use Rattle.arrivals.specs.Room.{StandsAt};
 ghost use Rattle.arrivals.specs.State.{CoreBecomes, core_of, state_of};
-ghost use Rattle.start.specs.Next.{Answers, past};
+ghost use Rattle.start.specs.Next.{Answers, oldest_started, past};
 ghost use Rattle.start.specs.Starting.{Due, HeldFits, Starts, Steps, Timed, TurnStarts};
 
 use accept::accepted::Load;
@@ -19,7 +19,7 @@ use rules::mode::{HeldFlow, Mode, Turn};
 use rules::row::Row;
 
 // A start: its row, and the dominant time of its block.
-#[derive(Clone, Copy)]
+#[derive(Clone, Copy, Debug, PartialEq, Eq)]
 pub struct Start {
     pub row: Row,
     pub time: u64,
@@ -82,25 +82,13 @@ fn after(load: &Load<'_>, planner: &mut Planner, turn: Turn, start: Start)
     arrivals::up_to(load, planner, start.row.way.one.finish);
 }
 
-// A block of a turn that goes on.
-fn further(load: &Load<'_>, planner: &mut Planner, turn: Turn) -> Option<Start>
+// The oldest block of the flow in its turn starts, where one waits: in a turn that goes on there is no hold.
+fn start_oldest(load: &Load<'_>, planner: &mut Planner, turn: Turn, hold: u64) -> Option<Start>
     requires { TurnStarts (the_load load.now) turn planner.old }
     ensures { (from : List ℕ) → Follows (the_load load.now) from planner.old.queues
-        → Answers (the_load load.now) result planner.new from (started (the_load load.now) (InTurn turn) (core_of planner.old from)) }
-{
-    let start = due(load, planner, turn, 0)?;
-    after(load, planner, turn, start);
-    Some(start)
-}
-
-// The first block of a turn, which has been held so long. The flow's next turn will wait until it starts at the last stage.
-fn first(load: &Load<'_>, planner: &mut Planner, turn: Turn, hold: u64) -> Option<Start>
-    requires { TurnStarts (the_load load.now) turn planner.old }
-    ensures { (from : List ℕ) → Follows (the_load load.now) from planner.old.queues
-        → Answers (the_load load.now) result planner.new from (begins (the_load load.now) (core_of planner.old from) turn hold) }
+        → Answers (the_load load.now) result planner.new from (oldest_started (the_load load.now) (core_of planner.old from) turn hold) }
 {
     let start = due(load, planner, turn, hold)?;
-    planner.gate[turn.flow] = stages::last_start(load.counts.stages, start.row.way);
     after(load, planner, turn, start);
     Some(start)
 }
@@ -114,7 +102,8 @@ fn hold_until(load: &Load<'_>, planner: &mut Planner, tick: u64)
     planner.core.turns += 1;
 }
 
-// The flow is held until the first block of its previous turn, if it ever had one, has started at the last stage.
+// The flow is held until the first block of its previous turn, if it ever had one, has started at the last stage; its next turn will
+// wait for the first block of this one.
 fn hold(load: &Load<'_>, planner: &mut Planner, held: HeldFlow) -> Option<Start>
     requires mode { planner.old.mode ≡ Holds held }
     requires starts { Starts (the_load load.now) (Holds held) planner.old × (planner.old.core.turns < 1_000_000) × HeldFits held planner.old.gate }
@@ -128,7 +117,9 @@ fn hold(load: &Load<'_>, planner: &mut Planner, held: HeldFlow) -> Option<Start>
         spent: held.excess,
     };
     hold_until(load, planner, tick);
-    first(load, planner, turn, tick - held.ready)
+    let start = start_oldest(load, planner, turn, tick - held.ready)?;
+    planner.gate[turn.flow] = stages::last_start(load.counts.stages, start.row.way);
+    Some(start)
 }
 
 // The next start, or that nothing is left to start.
@@ -141,6 +132,6 @@ pub fn step(load: &Load<'_>, planner: &mut Planner) -> Option<Start>
     match planner.mode {
         Mode::Idle => None,
         Mode::Holds(held) => hold(load, planner, held),
-        Mode::InTurn(turn) => further(load, planner, turn),
+        Mode::InTurn(turn) => start_oldest(load, planner, turn, 0),
     }
 }

@@ -1,7 +1,7 @@
 -- `start::step::step` meets its contract: the settled state's mode picks the start, and its bounds are those that each start asks.
 use mathlib.Core.Path.{sym}
-use Rattle.rules.specs.Plan.{started}
-use Rattle.start.specs.Next.{Answers}
+use Rattle.rules.specs.Plan.{further, started}
+use Rattle.start.specs.Next.{Answers, oldest_started}
 use Rattle.start.proofs.Reaching.{few_turns, held_fits, settled_at, settles, starting, step_is, steps_at, turn_fits}
 use Rattle.start.proofs.step.step.Goals as goal
 
@@ -17,8 +17,8 @@ hold-requires c =
     let reached = settled_at _ ok _ c.requires.steps _ c.settle.ensures in
     record { mode = mode; starts = (starting _ ok _ _ reached _ mode, few_turns _ ok _ _ reached, held_fits _ ok _ _ reached _ mode) }
 
-pub further-requires : goal.further-requires
-further-requires c =
+pub start_oldest-requires : goal.start_oldest-requires
+start_oldest-requires c =
     let ok = c.args.load.now.accepted in
     let mode = c.in-InTurn.is in
     let reached = settled_at _ ok _ c.requires.steps _ c.settle.ensures in
@@ -33,5 +33,6 @@ returns-in-Holds c = λ from follows.
     rw (← (step_is _ _ _ c.settle.ensures from follows _ c.in-Holds.is)) (c.hold.ensures from (rw c.settle.ensures.queues follows))
 
 pub returns-in-InTurn : goal.returns-in-InTurn
+unfolding started further oldest_started
 returns-in-InTurn c = λ from follows.
-    rw (← (step_is _ _ _ c.settle.ensures from follows _ c.in-InTurn.is)) (c.further.ensures from (rw c.settle.ensures.queues follows))
+    rw (← (step_is _ _ _ c.settle.ensures from follows _ c.in-InTurn.is)) (c.start_oldest.ensures from (rw c.settle.ensures.queues follows))
