@@ -191,12 +191,12 @@ module _ {c : Counts} {n : ℕ} {table : List ℕ} {fs₀ : List FlowRecord} {ws
   goes_ready more = record { from = g.from; follows = g.follows; starts = i; more = omega arith; reached = g.reached }
 
   -- there is a start for each that is left
-  pub there_is_one : {P : Type 0} → i < min n c.blocks → (p' : Planner) → Answers (load_of c table) None p' g.from (step (load_of c table) s) → P
+  pub there_is_one : {P : Type 0} → i < min n c.blocks → (p' : Planner) → Answers (load_of c table) p None p' g.from (step (load_of c table) s) → P
   unfolding Answers
-  there_is_one more p' answers = never_done (load_of c table) i s g.accepted g.reached (omega arith) answers
+  there_is_one more p' answers = never_done (load_of c table) i s g.accepted g.reached (omega arith) answers.0
 
   pub goes_on : i < min n c.blocks → {start : Start} {p' : Planner}
-      → Answers (load_of c table) (Some start) p' g.from (step (load_of c table) s) → On c n table fs₀ ws₀ i p t fs ws start p'
+      → Answers (load_of c table) p (Some start) p' g.from (step (load_of c table) s) → On c n table fs₀ ws₀ i p t fs ws start p'
   unfolding Answers latest recorded row_words way_words
   goes_on more {start} {p'} answers =
       let row = start.row in

@@ -1,11 +1,11 @@
 -- A start, put together from its parts: the block that is due, its row, and the planner after it.
 use Prim.Native.Nat.{ℕ, ◌≤◌, ◌<◌}
 use mathlib.Core.List.{List, []}
-use mathlib.Core.Option.{map, none, some}
+use mathlib.Core.Option.{Option as OptionOf, map, none, some}
 use mathlib.Core.Path.{◌≡◌, refl, ap, subst, sym, ◌∙◌}
 use native.Mathlib.Omega.{arith}
 use lib.ListN.{set}
-use Rattle.std.specs.Prelude.{Bool, cond, false, None, Some, true}
+use Rattle.std.specs.Prelude.{Bool, cond, false, None, Option, Some, true}
 use Rattle.dominant.specs.Dominant.{dominant_time}
 use Rattle.rules.specs.declared.mode.Turn.{Turn}
 use Rattle.rules.specs.declared.row.Row.{Row}
@@ -50,9 +50,9 @@ module _ (L : Load) (p : Planner) (t : Turn) (from : List ℕ) (follows : Follow
   c = core_of p from
 
   -- no block waits
-  pub none_starts : (q : Planner) (hold : ℕ) → p.core.next ≤ oldest_in p.queues t.flow → Answers L None q from (oldest_started L c t hold)
+  pub none_starts : (hold : ℕ) → p.core.next ≤ oldest_in p.queues t.flow → Answers L p None p from (oldest_started L c t hold)
   unfolding Answers oldest_started
-  none_starts q hold empty = starts_not L c p.queues follows arrived t.flow below _ refl _ empty
+  none_starts hold empty = (starts_not L c p.queues follows arrived t.flow below _ refl _ empty, refl, refl)
 
   -- q is the planner after start s
   module _ (s : Start) (due : Due L p t s) (q : Planner) where
@@ -63,7 +63,7 @@ module _ (L : Load) (p : Planner) (t : Turn) (from : List ℕ) (follows : Follow
     then = state_of q (past from s.row)
 
     pub oldest_starts : (hold : ℕ) → s.row ≡ row_of L c t hold s.row.block → (then ≡ after L c t c.gate s.row) × Follows L (past from s.row) q.queues
-        → Answers L (Some s) q from (oldest_started L c t hold)
+        → Answers L p (Some s) q from (oldest_started L c t hold)
     unfolding Answers oldest_started
     oldest_starts hold row made =
         let is = ap (started_by s.row) made.0 ∙ ap (λ (r : Row). started_by r (after L c t c.gate r)) (found hold row) in
@@ -95,11 +95,18 @@ begins_gated : (L : Load) (c : Core) (t : Turn) (hold : ℕ) → begins L c t ho
 unfolding begins oldest_started where_waits first after up_to state gated
 begins_gated L c t hold = gated_where (waits L c t.flow) (gated L t) _
 
-pub begins_not : (L : Load) (t : Turn) (hold : ℕ) (p q : Planner) (from : List ℕ) (c : Core) → Answers L None p from (oldest_started L c t hold) → Answers L None q from (begins L c t hold)
+pub begins_not : (L : Load) (t : Turn) (hold : ℕ) (p q : Planner) (from : List ℕ) (c : Core) → Answers L p None q from (oldest_started L c t hold) → Answers L p None q from (begins L c t hold)
 unfolding Answers
-begins_not L t hold p q from c empty = begins_gated L c t hold ∙ ap (map (gated L t)) empty
+begins_not L t hold p q from c empty = (begins_gated L c t hold ∙ ap (map (gated L t)) empty.0, empty.1, empty.2)
 
-pub begins_with : (L : Load) (t : Turn) (hold : ℕ) (s : Start) (p : Planner) (from : List ℕ) (c : Core) → Answers L (Some s) p from (oldest_started L c t hold)
-    → Answers L (Some s) (record p { gate = set p.gate t.flow (last_run L.counts.stages s.row.way).start }) from (begins L c t hold)
+pub begins_with : (L : Load) (t : Turn) (hold : ℕ) (s : Start) (p q : Planner) (from : List ℕ) (c : Core) → Answers L p (Some s) q from (oldest_started L c t hold)
+    → Answers L p (Some s) (record q { gate = set q.gate t.flow (last_run L.counts.stages s.row.way).start }) from (begins L c t hold)
 unfolding Answers gated
-begins_with L t hold s p from c made = (begins_gated L c t hold ∙ ap (map (gated L t)) made.0, made.1, made.2)
+begins_with L t hold s p q from c made = (begins_gated L c t hold ∙ ap (map (gated L t)) made.0, made.1, made.2)
+
+-- what came before the start left queues and gate
+pub answers_since : (L : Load) (p p' : Planner) (n : Option Start) (q : Planner) (from : List ℕ) (o : OptionOf Started) → p'.queues ≡ p.queues → p'.gate ≡ p.gate
+    → Answers L p' n q from o → Answers L p n q from o
+unfolding Answers
+answers_since L p p' None q from o queues gate a = (a.0, a.1 ∙ queues, a.2 ∙ gate)
+answers_since L p p' (Some s) q from o queues gate a = a

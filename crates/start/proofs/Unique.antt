@@ -23,10 +23,10 @@ of_started : Load → OptionOf Started → Option Start
 of_started L none = None
 of_started L (some q) = Some (record { row = q.row; time = dominant_time (block_at L.table q.row.block) })
 
-answer_of_lem : (L : Load) (n : Option Start) (p : Planner) (from : List ℕ) (o : OptionOf Started) → Answers L n p from o → n ≡ of_started L o
+answer_of_lem : (L : Load) (p : Planner) (n : Option Start) (q : Planner) (from : List ℕ) (o : OptionOf Started) → Answers L p n q from o → n ≡ of_started L o
 unfolding Answers of_started
-answer_of_lem L None p from o a = sym (ap (of_started L) a)
-answer_of_lem L (Some s) p from o a = ap (λ (t : ℕ). Some (record { row = s.row; time = t })) a.1 ∙ sym (ap (of_started L) a.0)
+answer_of_lem L p None q from o a = sym (ap (of_started L) a.0)
+answer_of_lem L p (Some s) q from o a = ap (λ (t : ℕ). Some (record { row = s.row; time = t })) a.1 ∙ sym (ap (of_started L) a.0)
 
 -- what a planner stands for, but for the places, which it does not have
 abbrev seen : State → State
@@ -35,12 +35,12 @@ seen s = record {
   core = record { clock = s.core.clock; line = s.core.line; round = s.core.round; turns = s.core.turns; from = []; gate = s.core.gate; way = s.core.way };
 }
 
-left_by : (L : Load) (n n' : Option Start) (p p' : Planner) (from : List ℕ) (o : OptionOf Started) → Answers L n p from o → Answers L n' p' from o → (n ≡ None → ⊥) → (n' ≡ None → ⊥)
+left_by : (L : Load) (before : Planner) (n n' : Option Start) (p p' : Planner) (from : List ℕ) (o : OptionOf Started) → Answers L before n p from o → Answers L before n' p' from o → (n ≡ None → ⊥) → (n' ≡ None → ⊥)
     → state_of p [] ≡ state_of p' []
 unfolding Answers
-left_by L None n' p p' from o a b is is' = absurd (is refl)
-left_by L (Some s) None p p' from o a b is is' = absurd (is' refl)
-left_by L (Some s) (Some s') p p' from o a b is is' =
+left_by L before None n' p p' from o a b is is' = absurd (is refl)
+left_by L before (Some s) None p p' from o a b is is' = absurd (is' refl)
+left_by L before (Some s) (Some s') p p' from o a b is is' =
     let same : ◌≡◌ {A = Started} (record { row = s.row; then = state_of p (past from s.row) }) (record { row = s'.row; then = state_of p' (past from s'.row) }) = cc (a.0, b.0) in
     ap (λ (q : Started). seen q.then) same
 
@@ -49,8 +49,8 @@ origin_once κs a r r' s s' p q = p.0 ∙ sym q.0
 
 pub step_once : OneAnswerWhere step.Post step.Pre
 step_once κs a k r r' s s' p q =
-    answer_of_lem _ r _ _ _ (p k.from k.follows) ∙ sym (answer_of_lem _ r' _ _ _ (q k.from k.follows))
+    answer_of_lem _ _ r _ _ _ (p k.from k.follows) ∙ sym (answer_of_lem _ _ r' _ _ _ (q k.from k.follows))
 
 -- where there is a start
 pub step_leaves_once : OneExitWhere (λ κs a r s. step.Post κs a r s × (r ≡ None → ⊥)) step.Pre {A = State} (λ κs s. state_of s.1.0.now [])
-step_leaves_once κs a k r r' s s' p q = left_by _ r r' _ _ _ _ (p.0 k.from k.follows) (q.0 k.from k.follows) p.1 q.1
+step_leaves_once κs a k r r' s s' p q = left_by _ _ r r' _ _ _ _ (p.0 k.from k.follows) (q.0 k.from k.follows) p.1 q.1

@@ -16,13 +16,14 @@ use Rattle.start.specs.declared.step.Start.{Start}
 abbrev pub past : List ℕ → Row → List ℕ
 past from r = set from r.flow (r.block + 1)
 
--- The answer is the definition's start, or that there is none, where the queues followed `from`; and so do the planner's after it.
-unfoldable pub Answers : Load → Option Start → Planner → List ℕ → OptionOf plan.Started → Type 0
-Answers L None p from o = o ≡ none
-Answers L (Some s) p from o =
-    (o ≡ some (record { row = s.row; then = state_of p (past from s.row) }))
+-- From planner p on the answer is the definition's start, or that there is none, where the queues followed `from`; and so do those
+-- of planner q after it. Where there is none, queues and gate stay.
+unfoldable pub Answers : Load → Planner → Option Start → Planner → List ℕ → OptionOf plan.Started → Type 0
+Answers L p None q from o = (o ≡ none) × (q.queues ≡ p.queues) × (q.gate ≡ p.gate)
+Answers L p (Some s) q from o =
+    (o ≡ some (record { row = s.row; then = state_of q (past from s.row) }))
     × (s.time ≡ dominant_time (block_at L.table s.row.block))
-    × Follows L (past from s.row) p.queues
+    × Follows L (past from s.row) q.queues
 
 -- the start of the oldest block of the flow in its turn, with this hold, where the gates stay
 unfoldable pub oldest_started : Load → plan.Core → Turn → ℕ → OptionOf plan.Started

@@ -86,7 +86,7 @@ fn after(load: &Load<'_>, planner: &mut Planner, turn: Turn, start: Start)
 fn start_oldest(load: &Load<'_>, planner: &mut Planner, turn: Turn, hold: u64) -> Option<Start>
     requires { TurnStarts (the_load load.now) turn planner.old }
     ensures { (from : List ℕ) → Follows (the_load load.now) from planner.old.queues
-        → Answers (the_load load.now) result planner.new from (oldest_started (the_load load.now) (core_of planner.old from) turn hold) }
+        → Answers (the_load load.now) planner.old result planner.new from (oldest_started (the_load load.now) (core_of planner.old from) turn hold) }
 {
     let start = due(load, planner, turn, hold)?;
     after(load, planner, turn, start);
@@ -108,7 +108,7 @@ fn hold(load: &Load<'_>, planner: &mut Planner, held: HeldFlow) -> Option<Start>
     requires mode { planner.old.mode ≡ Holds held }
     requires starts { Starts (the_load load.now) (Holds held) planner.old × (planner.old.core.turns < 1_000_000) × HeldFits held planner.old.gate }
     ensures { (from : List ℕ) → Follows (the_load load.now) from planner.old.queues
-        → Answers (the_load load.now) result planner.new from (started (the_load load.now) (Holds held) (core_of planner.old from)) }
+        → Answers (the_load load.now) planner.old result planner.new from (started (the_load load.now) (Holds held) (core_of planner.old from)) }
 {
     let tick = stages::later(held.ready, planner.gate[held.flow]);
     let turn = Turn {
@@ -126,7 +126,7 @@ fn hold(load: &Load<'_>, planner: &mut Planner, held: HeldFlow) -> Option<Start>
 pub fn step(load: &Load<'_>, planner: &mut Planner) -> Option<Start>
     requires steps { Steps (the_load load.now) planner.old }
     ensures { (from : List ℕ) → Follows (the_load load.now) from planner.old.queues
-        → Answers (the_load load.now) result planner.new from (Plan·step (the_load load.now) (state_of planner.old from)) }
+        → Answers (the_load load.now) planner.old result planner.new from (Plan·step (the_load load.now) (state_of planner.old from)) }
 {
     settle::settle(load, planner);
     match planner.mode {

@@ -4,7 +4,7 @@ use native.Mathlib.Omega.{arith}
 use Rattle.rules.specs.Plan.{held_until, started, turn_of}
 use Rattle.start.proofs.Reaching.{held_starts}
 use Rattle.start.specs.Starting.{most}
-use Rattle.start.proofs.Starting.{begins_not, begins_with}
+use Rattle.start.proofs.Starting.{answers_since, begins_not, begins_with}
 use Rattle.start.proofs.step.hold.Goals as goal
 
 pub start_oldest-requires : goal.start_oldest-requires
@@ -19,11 +19,11 @@ unfolding started held_until turn_of
 returns-in_err-start c = λ from follows.
     let held = c.hold_until.ensures in
     rw (c.from_residual.ensures, ← c.later-tick.ensures, ← (rw c.requires.mode at (held.core from)))
-    (begins_not _ _ _ _ _ from _ (c.in_err-start.ensures from (rw held.queues follows)))
+    (answers_since _ _ _ _ _ _ _ held.queues held.gate (begins_not _ _ _ _ _ from _ (c.in_err-start.ensures from (rw held.queues follows))))
 
 pub returns : goal.returns
 unfolding started held_until turn_of
 returns c = λ from follows.
     let held = c.hold_until.ensures in
     rw (← c.later-tick.ensures, ← (rw c.requires.mode at (held.core from)), c.last_start.ensures)
-    (begins_with _ _ _ _ _ from _ (c.in_ok-start.ensures from (rw held.queues follows)))
+    (answers_since _ _ _ _ _ _ _ held.queues held.gate (begins_with _ _ _ _ _ _ from _ (c.in_ok-start.ensures from (rw held.queues follows))))

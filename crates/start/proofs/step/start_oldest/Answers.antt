@@ -5,7 +5,7 @@ use Rattle.start.proofs.step.start_oldest.Goals as goal
 pub returns-in_err-start : goal.returns-in_err-start
 returns-in_err-start c = λ from follows.
     let k = c.requires in
-    rw c.from_residual.ensures (none_starts _ c.args.planner.now _ from follows k.0.stands.arrived k.1.0 _ _ c.in_err-start.ensures.none)
+    rw c.from_residual.ensures (none_starts _ c.args.planner.now _ from follows k.0.stands.arrived k.1.0 _ c.in_err-start.ensures.none)
 
 pub returns : goal.returns
 returns c = λ from follows.

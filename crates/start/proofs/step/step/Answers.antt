@@ -3,6 +3,7 @@ use mathlib.Core.Path.{sym}
 use Rattle.rules.specs.Plan.{further, started}
 use Rattle.start.specs.Next.{Answers, oldest_started}
 use Rattle.start.proofs.Reaching.{few_turns, held_fits, settled_at, settles, starting, step_is, steps_at, turn_fits}
+use Rattle.start.proofs.Starting.{answers_since}
 use Rattle.start.proofs.step.step.Goals as goal
 
 pub settle-requires : goal.settle-requires
@@ -26,13 +27,17 @@ start_oldest-requires c =
 
 pub returns-in-Idle : goal.returns-in-Idle
 unfolding Answers started
-returns-in-Idle c = λ from follows. sym (step_is _ _ _ c.settle.ensures from follows _ c.in-Idle.is)
+returns-in-Idle c = λ from follows.
+    let e = c.settle.ensures in
+    (sym (step_is _ _ _ e from follows _ c.in-Idle.is), e.queues, e.gate)
 
 pub returns-in-Holds : goal.returns-in-Holds
 returns-in-Holds c = λ from follows.
-    rw (← (step_is _ _ _ c.settle.ensures from follows _ c.in-Holds.is)) (c.hold.ensures from (rw c.settle.ensures.queues follows))
+    let e = c.settle.ensures in
+    rw (← (step_is _ _ _ e from follows _ c.in-Holds.is)) (answers_since _ _ _ _ _ _ _ e.queues e.gate (c.hold.ensures from (rw e.queues follows)))
 
 pub returns-in-InTurn : goal.returns-in-InTurn
 unfolding started further oldest_started
 returns-in-InTurn c = λ from follows.
-    rw (← (step_is _ _ _ c.settle.ensures from follows _ c.in-InTurn.is)) (c.start_oldest.ensures from (rw c.settle.ensures.queues follows))
+    let e = c.settle.ensures in
+    rw (← (step_is _ _ _ e from follows _ c.in-InTurn.is)) (answers_since _ _ _ _ _ _ _ e.queues e.gate (c.start_oldest.ensures from (rw e.queues follows)))
