@@ -9,6 +9,7 @@ use load::counts::Counts;
 use load::refusal::Refusal;
 
 // The counts and the block table of a load that the plan call accepts.
+// The table stays flat words, as C lends it.
 #[derive(Clone, Copy)]
 pub struct Load<'a> {
     pub counts: Counts,
@@ -28,6 +29,7 @@ impl<'a> Load<'a> {
 }
 
 // The load of a call, where every test is passed, and else the refusal that applies first.
+// The parameters are the call's own arguments, which C hands over one by one.
 #[tactic(auto, using(rules::proofs::Accepting::accepted))]
 pub fn accept<'a>(
     counts: Counts,

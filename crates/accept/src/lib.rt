@@ -17,6 +17,8 @@ pub fn listed(limit: u64, blocks: usize) -> usize
     limit.min(blocks as u64) as usize
 }
 
+// Whether a table that is lent is too short.
+// The parameters are the call's own arguments, which C hands over one by one.
 #[tactic(auto, unfolding(rules::specs::Calls::short))]
 fn short(
     counts: Counts,
@@ -47,6 +49,8 @@ fn test_blocks(counts: Counts, blocks: &[u32]) -> Result<(), Refusal>
     Ok(())
 }
 
+// The verdict of a call: the refusal that applies first, or none.
+// The parameters are the call's own arguments, which C hands over one by one.
 #[tactic(auto, unfolding(rules::specs::Calls::plan_verdict, rules::specs::Calls::and_then, load::specs::Refusals::given))]
 pub fn test(
     counts: Counts,

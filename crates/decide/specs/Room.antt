@@ -2,10 +2,15 @@
 use Rattle.std.specs.Prelude.{◌<◌}
 use Rattle.rules.specs.Load.{Load}
 use Rattle.rules.specs.Within.{Away}
+use Rattle.waiting.specs.Entries.{Fits}
 use Rattle.arrivals.specs.declared.state.Planner.{Planner}
 use Rattle.arrivals.specs.Room.{StandsAt}
 
--- where a flow is taken, which may open a round
+-- where a flow may be called that leaves the list or has left it, which may open a round
+abbrev pub CallFits : Planner → Type 0
+CallFits p = Fits p.list × (p.core.round.number < 1_000_000)
+
+-- where a flow is taken
 pub record Takes (L : Load) (p : Planner) : Type 0 where
   pub stands : StandsAt L p
   pub number : p.core.round.number < 1_000_000

@@ -1,12 +1,12 @@
-// What is decided when stage 1 is free: whether the turn goes on, and else who is taken next.
+// Settling the planner at a tick: the turn is tested, and an idle planner takes the head of the list, or wakes at the next arrival.
 ghost use Rattle.std.specs.Prelude.{◌≡◌, [], ◌∷◌, ◌<◌};
 ghost use Rattle.rules.specs.declared.mode.Mode.TheVariants.{Idle};
 ghost use Rattle.rules.specs.Plan.{readied, rejoined, taken, tested as Plan·tested, woken};
-ghost use Rattle.waiting.specs.Entries.{Fits, Room};
+ghost use Rattle.waiting.specs.Entries.{Room};
 ghost use Rattle.accept.specs.Loads.{the_load};
 ghost use Rattle.arrivals.specs.Room.{StandsAt};
 ghost use Rattle.arrivals.specs.State.{Becomes, BecomesBy, CoreBecomes, settled_in};
-ghost use Rattle.decide.specs.Room.{Settles, Takes};
+ghost use Rattle.decide.specs.Room.{CallFits, Settles, Takes};
 
 use accept::accepted::Load;
 use arrivals::state::Planner;
@@ -44,7 +44,7 @@ fn test_turn(load: &Load<'_>, planner: &mut Planner)
 // counts where a round opens.
 #[tactic(auto, unfolding(rules::specs::Plan::taken, rules::specs::Plan::state, rules::specs::Plan::with_line, rules::specs::Plan::with_round))]
 fn call(planner: &mut Planner, entry: Entry)
-    requires { Fits planner.old.list × (planner.old.core.round.number < 1_000_000) }
+    requires { CallFits planner.old }
     ensures { Becomes (λ c. taken c (entry ∷ planner.old.list)) planner.old planner.new }
 {
     planner.mode = Mode::Holds(HeldFlow {
@@ -72,7 +72,7 @@ fn wake(load: &Load<'_>, planner: &mut Planner)
 
 // The head of the list is taken, and the planner stays idle where there is none.
 fn take_head(planner: &mut Planner)
-    requires fits { Fits planner.old.list × (planner.old.core.round.number < 1_000_000) }
+    requires fits { CallFits planner.old }
     requires idle { planner.old.mode ≡ Idle }
     ensures { Becomes (λ c. taken c planner.old.list) planner.old planner.new }
 {

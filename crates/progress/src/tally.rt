@@ -7,7 +7,7 @@ use arrivals::state::Core;
 use rows::stages;
 use rules::answer::Summary;
 
-// How many turns were held, and for how many ticks in all. Turns, rounds and the end are where the planner is.
+// How many turns were held, and for how many ticks in all. Turns, rounds and the end are read off the planner.
 #[derive(Clone, Copy, Debug, Default, PartialEq, Eq)]
 pub struct Tally {
     pub held: u64,

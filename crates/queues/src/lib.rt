@@ -43,6 +43,7 @@ impl Queues {
     }
 
     // The oldest block of a flow that isn't started.
+    // It is a place and no `Option`: 1024 stands for none, so a caller's one comparison with how many have arrived does for both.
     pub fn oldest(&self, flow: usize) -> usize
         requires { flow < most }
         ensures { result ≡ oldest_in self.now flow }

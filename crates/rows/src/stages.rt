@@ -7,6 +7,7 @@ use load::block::Block;
 use rules::stages::{Span, Way};
 
 // The later of two ticks.
+// It is a function of its own since docs/PROMISES.md promises its theorem by name, `later_once`.
 pub fn later(a: u64, b: u64) -> u64
     ensures { result ≡ max a b }
 {
@@ -27,6 +28,7 @@ fn run_after(own: u64, before: u64, time: u32) -> Span
 
 // The way of a block that starts at a tick, after a block whose way was `before`. It ends at the load's last stage: at those that the
 // load lacks there is no run.
+// The runs are four fields and no array, since the definition of the plan names the four.
 #[tactic(auto, unfolding(rules::specs::Stages::way_of, rules::specs::Stages::later_run))]
 pub fn pass(stages: usize, before: Way, start: u64, block: Block) -> Way
     requires { (start ≤ 1_000_000_000_000) × (WayWithin before 1_000_000_000_000) }
@@ -69,6 +71,7 @@ fn last(stages: usize, way: Way) -> Span
 }
 
 // The tick at which the run at the last stage starts.
+// It is a function of its own since docs/PROMISES.md promises its theorem by name, `last_start_once`.
 pub fn last_start(stages: usize, way: Way) -> u64
     ensures { result ≡ (last_run stages way).start }
 {
@@ -76,6 +79,7 @@ pub fn last_start(stages: usize, way: Way) -> u64
 }
 
 // The tick at which the run at the last stage ends.
+// It is a function of its own since docs/PROMISES.md promises its theorem by name, `last_finish_once`.
 pub fn last_finish(stages: usize, way: Way) -> u64
     ensures { result ≡ (last_run stages way).finish }
 {

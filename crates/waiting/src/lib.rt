@@ -35,9 +35,8 @@ impl Waiting {
     pub fn new() -> Waiting
         ensures { result ≡ [] }
     {
-        let unused = Entry { flow: 0, excess: 0 };
         Waiting {
-            places: [unused; PLACES],
+            places: [Entry::default(); PLACES],
             head: 0,
             count: 0,
         }
