@@ -18,7 +18,7 @@ pub struct Core {
 
 // The planner with all that it changes as it goes on: beside mode and core the list of waiting flows, the flows' queues, and for
 // each flow its gate, the tick before which its next turn does not start.
-#[derive(Drop)]
+#[derive(Debug, Drop)]
 pub struct Planner {
     pub mode: Mode,
     pub core: Core,

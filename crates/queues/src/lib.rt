@@ -12,7 +12,7 @@ use accept::accepted::Load;
 const NONE: u32 = 1024;
 
 // For each flow the place of its oldest block, and for each block the place of the next one of its flow.
-#[derive(Drop)]
+#[derive(Debug, Drop)]
 pub struct Queues {
     oldest: [u32; 64],
     next: [u32; 1024],
