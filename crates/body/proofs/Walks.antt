@@ -9,6 +9,7 @@ use Rattle.std.specs.Prelude.{Ok, Err}
 use Rattle.load.specs.declared.block.Block.{Block}
 use Rattle.load.specs.declared.counts.Counts.{Counts}
 use Rattle.load.specs.declared.refusal.Refusal.{Refusal}
+use Rattle.load.proofs.Parts.{part_rest}
 use Rattle.records.specs.Answers.{block_found, list_of, walk_of}
 use Rattle.records.specs.Records.{Parsed, Walk, refused, parsed, after, onto, past, flow_record, flow_records, block_in, block_record, block_records}
 use Rattle.records.proofs.Records.{block_record_reads, flow_record_reads, measure_within}
@@ -100,3 +101,8 @@ flows_within s (suc k) at end h e = go (flow_record (drop at s)) refl (λ size. 
       absurd cc
   go (Ok size) m later =
       later size (flow_within s at size m h) (sym (flows_next s at (suc k) k size (omega arith) m) ∙ e)
+
+-- what `walk::flows` and `walk::own_name` go by
+pub ruleset flows_laws = (part_rest, flow_within, flows_next, flows_end)
+
+pub ruleset own_name_laws = (part_rest, flows_within, measure_within)

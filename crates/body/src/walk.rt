@@ -11,7 +11,7 @@ use load::refusal::Refusal;
 use records::record;
 
 // The byte after so many flow records, which start at byte 10.
-#[tactic(auto, using(load::proofs::Parts::part_rest, crate::proofs::Walks::flow_within, crate::proofs::Walks::flows_next, crate::proofs::Walks::flows_end))]
+#[tactic(auto, using(crate::proofs::Walks::flows_laws))]
 fn flows(file: &[u8], count: usize) -> Result<usize, Refusal>
     requires { 10 ≤ length file.now }
     ensures { result ≡ walk_of (flow_records file.now count 10) }
@@ -55,7 +55,7 @@ pub fn body(file: &[u8], counts: Counts) -> Result<usize, Refusal>
 }
 
 // The name in a flow's record of a sound file: the part of the file after the record's length byte.
-#[tactic(auto, using(load::proofs::Parts::part_rest, crate::proofs::Walks::flows_within, records::proofs::Records::measure_within), unfolding(crate::specs::Body::own_name_of, crate::specs::Body::name_after, crate::specs::Body::name_at, records::specs::Records::name_in, records::specs::Parts::bytes_in, records::specs::Parts::place_in))]
+#[tactic(auto, using(crate::proofs::Walks::own_name_laws), unfolding(crate::specs::Body::own_name_of, crate::specs::Body::name_after, crate::specs::Body::name_at, records::specs::Parts::bytes_in, records::specs::Parts::place_in))]
 pub fn own_name(file: &[u8], flow: usize) -> &[u8]
     requires { 10 ≤ length file.now }
     ensures { IsPart file.entry (own_name_of file.now flow) result }

@@ -15,8 +15,10 @@ use Rattle.load.specs.Refusals.{given}
 use Rattle.records.specs.Answers.{walk_of}
 use Rattle.records.specs.Records.{Parsed, refused, parsed, after, stop_if, unless, block_records, flow_records}
 use Rattle.records.specs.Parts.{Part}
+use Rattle.header.proofs.Accepted.{header_good}
 use Rattle.body.specs.Body.{body_blocks, body_end, body_walk}
 use Rattle.loadfile.specs.Layout.{Contents, records, whole}
+use Rattle.loadfile.proofs.Files.{contents_refused, contents_records}
 
 -- the file, read
 abbrev pub held : Counts → List Part → List Block → Contents
@@ -65,3 +67,6 @@ module _ (c : Counts) (s : List ℕ) where
     go : Walked → Sound from
     go (stops r w read) = absurd cc
     go (ends at w sound) = let same : at ≡ from = cc in rw (← same) sound
+
+-- what `sound` goes by
+pub ruleset sound_laws = (header_good, contents_refused, contents_records, body_refuses)

@@ -11,6 +11,7 @@ use Rattle.load.specs.declared.refusal.Refusal.{Refusal}
 use Rattle.load.specs.Refusals.{given}
 use Rattle.records.specs.Records.{refused, parsed, unless}
 use Rattle.header.specs.Header.{counts_in, header_verdict}
+use Rattle.header.proofs.Accepted.{header_good}
 use Rattle.body.specs.Body.{table_words}
 use Rattle.loadfile.specs.Calls.{answer_of, contents, reading, Reads, table_after}
 use Rattle.loadfile.specs.Layout.{file_with, records, Contents}
@@ -46,3 +47,6 @@ reads_refused file table r e = record { answers = rw e; leaves = rw e }
 pub reads_whole : (file table : List ℕ) (l : Contents) (end : ℕ) → reading file table ≡ parsed l end → Reads file table (Ok l.counts) (table_words l.blocks ++ drop (6 * l.counts.blocks) table)
 unfolding answer_of table_after
 reads_whole file table l end e = record { answers = rw e; leaves = rw e }
+
+-- what `read` goes by
+pub ruleset read_laws = (header_good, reading_refused, reading_short, reads_refused)

@@ -11,7 +11,7 @@ use load::refusal::Refusal;
 use records::standing;
 
 // The soundness call.
-#[tactic(auto, using(header::proofs::Accepted::header_good, crate::proofs::Files::contents_refused, crate::proofs::Files::contents_records, crate::proofs::Body::body_refuses), unfolding(crate::specs::Calls::soundness, records::specs::Answers::verdict_of))]
+#[tactic(auto, using(crate::proofs::Body::sound_laws), unfolding(crate::specs::Calls::soundness, records::specs::Answers::verdict_of))]
 pub fn sound(file: &[u8]) -> Result<(), Refusal>
     ensures { result ≡ soundness file.now }
 {
@@ -21,7 +21,7 @@ pub fn sound(file: &[u8]) -> Result<(), Refusal>
 }
 
 // The reader: tests everything, and only then writes the block table.
-#[tactic(auto, using(header::proofs::Accepted::header_good, crate::proofs::Files::reading_refused, crate::proofs::Files::reading_short, crate::proofs::Files::reads_refused))]
+#[tactic(auto, using(crate::proofs::Files::read_laws))]
 pub fn read(file: &[u8], table: &mut [u32]) -> Result<Counts, Refusal>
     ensures { Reads file.now table.old result table.new }
 {

@@ -1,15 +1,19 @@
 -- Laws of one record: what its tests say of one that is read, and that it lies within the bytes given.
-use Prim.Native.Nat.{ℕ, ◌+◌, ◌*◌, ◌≤◌, ◌<◌}
+use Prim.Native.Nat.{ℕ, ◌+◌, ◌*◌, ◌-◌, ◌≤◌, ◌<◌}
+use mathlib.Core.Bool.{true, false}
 use mathlib.Core.List.{List}
 use mathlib.Core.Path.{◌≡◌, refl}
 use native.Mathlib.Omega.{arith}
-use lib.ListN.{length}
+use lib.ListN.{length, take, drop}
 use Rattle.std.specs.Prelude.{Ok, Err}
 use Rattle.load.specs.declared.block.Block.{Block}
 use Rattle.load.specs.declared.counts.Counts.{Counts}
+use Rattle.load.specs.declared.refusal.Refusal.{Refusal}
+use Rattle.load.specs.declared.refusal.Refusal.TheVariants.{NameByte}
 use Rattle.load.specs.Refusals.{Verdict}
 use Rattle.records.specs.Answers.{block_found}
-use Rattle.records.specs.Records.{Parsed, Walk, refused, parsed, stop_if, unless, measure, flow_measured, flow_record, block_in, block_measured, block_record}
+use Rattle.records.specs.Parts.{bytes_in}
+use Rattle.records.specs.Records.{name_bytes, name_in, Parsed, Walk, refused, parsed, stop_if, unless, measure, flow_measured, flow_record, block_in, block_measured, block_record}
 
 pub unless_passed : {A : Type 0} (v : Verdict) (p : Parsed A) (a : A) (at : ℕ) → unless v p ≡ parsed a at → (v ≡ Ok tt) × (p ≡ parsed a at)
 unfolding unless
@@ -28,6 +32,23 @@ flow_record_reads rest size e = go (measure 0 31 rest) e where
   go : (w : Walk) → flow_measured rest w ≡ Ok size → w ≡ Ok size
   go (Err r) e = grind arith
   go (Ok next) e = grind arith
+
+module _ (rest : List ℕ) where
+  pub flow_unmeasured : (r : Refusal) → measure 0 31 rest ≡ Err r → flow_record rest ≡ Err r
+  unfolding flow_record flow_measured
+  flow_unmeasured r e = rw e refl
+
+  -- a record that is measured has its name right after the length byte
+  pub flow_named : (next : ℕ) (name : List ℕ) → measure 0 31 rest ≡ Ok next → name ≡ take (next - 1) (drop 1 rest) → name_bytes name ≡ true → flow_record rest ≡ Ok next
+  unfolding flow_record flow_measured stop_if name_in bytes_in
+  flow_named next name e same good = rw (e, rw same at good) refl
+
+  pub flow_misnamed : (next : ℕ) (name : List ℕ) → measure 0 31 rest ≡ Ok next → name ≡ take (next - 1) (drop 1 rest) → name_bytes name ≡ false → flow_record rest ≡ Err NameByte
+  unfolding flow_record flow_measured stop_if name_in bytes_in
+  flow_misnamed next name e same bad = rw (e, rw same at bad) refl
+
+-- what `record::flow` finds, test by test
+pub ruleset flow_laws = (measure_within, flow_unmeasured, flow_named, flow_misnamed)
 
 -- a block record that is read has this size, lies within the bytes given, and holds the block that its bytes say
 pub block_record_reads : (c : Counts) (above : ℕ) (rest : List ℕ) (b : Block) (size : ℕ) → block_record c above rest ≡ parsed b size

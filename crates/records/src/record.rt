@@ -29,7 +29,7 @@ fn printable(name: &[u8]) -> bool
 }
 
 // A flow's record: 5, then 6.
-#[tactic(auto, using(crate::proofs::Records::measure_within), unfolding(crate::specs::Records::flow_record, crate::specs::Records::flow_measured, crate::specs::Records::stop_if, crate::specs::Records::name_in, crate::specs::Parts::bytes_in))]
+#[tactic(auto, using(crate::proofs::Records::flow_laws))]
 pub fn flow(rest: &[u8]) -> Result<usize, Refusal>
     ensures { result ≡ flow_record rest.now }
 {
