@@ -6,15 +6,13 @@ use line::Page;
 use std::io::Read;
 
 fn sound(out: &mut Page, file: &[u8]) {
-    let number = load::refusal::number(loadfile::sound(file));
-    answer::put(out, b"sound", number, &[]);
+    out.text(b"sound");
+    out.spaced(load::refusal::number(loadfile::sound(file)));
 }
 
 fn read(out: &mut Page, file: &[u8], blocks: &mut [u32]) {
     table::mark(blocks, 4_000_000_000);
-    let mut counts = [0; 3];
-    let number = words::put(loadfile::read(file, blocks), &mut counts);
-    answer::put(out, b"read", number, &counts);
+    answer::put(out, b"read", loadfile::read(file, blocks));
     table::put(out, blocks);
 }
 
@@ -23,13 +21,12 @@ fn name(out: &mut Page, file: &[u8], standing: &[u8], flow: usize) {
     out.hex(loadfile::name(file, standing, flow));
 }
 
-// Reads the next part of a case into just its bytes of the room for it.
-fn part<'a, R: Read>(from: &mut R, room: &'a mut [u8], bytes: usize) -> Result<&'a [u8], BadCase> {
-    let part = room.get_mut(..bytes).ok_or(BadCase)?;
-    if read_full(from, part) < bytes {
+// Reads the next part of a case. The input may not end inside it.
+fn read_part<R: Read>(from: &mut R, part: &mut [u8]) -> Result<(), BadCase> {
+    if read_full(from, part) < part.len() {
         return Err(BadCase);
     }
-    Ok(part)
+    Ok(())
 }
 
 // The room for a case's parts, and for the tables that it lends.
@@ -52,15 +49,18 @@ impl Room {
     }
 
     // Reads what follows the head, and makes the case's call, with tables of just the words that it asks for. The case is bad where
-    // there is no room for a part or a table, the input ends inside, or a plan's parameters are wrong.
+    // there is no room for a part or a table, the input ends inside, or a plan's parameters are wrong. No byte is read where there is
+    // no room for one of the parts.
     pub fn run<R: Read>(
         &mut self,
         from: &mut R,
         head: Head,
         out: &mut Page,
     ) -> Result<(), BadCase> {
-        let standing = part(from, &mut self.standing, head.standing)?;
-        let file = part(from, &mut self.file, head.file)?;
+        let file = self.file.get_mut(..head.file).ok_or(BadCase)?;
+        let standing = self.standing.get_mut(..head.standing).ok_or(BadCase)?;
+        read_part(from, standing)?;
+        read_part(from, file)?;
         match head.call {
             Call::Sound => sound(out, file),
             Call::Read(words) => {

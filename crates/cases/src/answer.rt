@@ -3,13 +3,19 @@ ghost use Rattle.std.specs.Prelude.{◌≤◌, length};
 
 use crate::{record, table};
 use line::Page;
+use load::refusal::Refusal;
 use rules::record::FlowRecord;
+use words::InWords;
 
-// The call's word, the answer's number, and what the answer counts.
-pub fn put(out: &mut Page, call: &[u8], number: u64, counts: &[u64]) {
+// The call's word, the answer's number, and what the answer counts: six words at most.
+pub fn put<const N: usize, T: InWords<N>>(out: &mut Page, call: &[u8], answer: Result<T, Refusal>)
+    requires { N ≤ 6 }
+{
+    let mut counts = [0; N];
+    let number = words::put(answer, &mut counts);
     out.text(call);
     out.spaced(number);
-    for &count in counts {
+    for &count in &counts {
         out.spaced(count);
     }
 }

@@ -5,7 +5,8 @@ ghost use Rattle.std.specs.Io.KnownBytes.{Consumes};
 use std::io::Read;
 
 // Reads until the part is full, the input ends or a read fails, and answers how many bytes stand at the part's start. No byte that it
-// takes is lost, which `read_exact` doesn't say where the input ends early.
+// takes is lost, which `read_exact` doesn't say where the input ends early. The loop of `plan::input::read` is alike: there the error
+// outlives a read that fails, here the count does.
 pub fn read_full<R: Read>(input: &mut R, part: &mut [u8]) -> usize
     ensures within { result ≤ length part.new }
     ensures bytes { Consumes (R.remaining input.old) (R.remaining input.new) (take result part.new) }

@@ -1,6 +1,4 @@
 // What a plan's case gives: the parameters of the call, and the block table's words.
-ghost use Rattle.std.specs.Prelude.{◌≤◌, length};
-
 use load::counts::Counts;
 
 #[derive(Clone, Copy, Debug, PartialEq, Eq)]
@@ -12,21 +10,21 @@ pub struct Parameters {
     pub row_words: usize,
 }
 
-// The parameters that the case's 40 bytes give.
-pub fn read(bytes: &[u8]) -> Parameters
-    requires { 40 ≤ length bytes.now }
-{
-    let (words, _) = bytes.as_chunks::<8>();
-    let (lent, _) = bytes[32..].as_chunks::<4>();
-    Parameters {
-        limit: u64::from_be_bytes(words[0]),
-        counts: Counts {
-            stages: usize::from_be_bytes(words[1]),
-            flows: usize::from_be_bytes(words[2]),
-            blocks: usize::from_be_bytes(words[3]),
-        },
-        flow_records: u32::from_be_bytes(lent[0]) as usize,
-        row_words: u32::from_be_bytes(lent[1]) as usize,
+// Four words of 64 bits, and two of 32.
+impl From<[u8; 40]> for Parameters {
+    fn from(bytes: [u8; 40]) -> Parameters {
+        let (words, _) = bytes.as_chunks::<8>();
+        let (lent, _) = bytes[32..].as_chunks::<4>();
+        Parameters {
+            limit: u64::from_be_bytes(words[0]),
+            counts: Counts {
+                stages: usize::from_be_bytes(words[1]),
+                flows: usize::from_be_bytes(words[2]),
+                blocks: usize::from_be_bytes(words[3]),
+            },
+            flow_records: u32::from_be_bytes(lent[0]) as usize,
+            row_words: u32::from_be_bytes(lent[1]) as usize,
+        }
     }
 }
 

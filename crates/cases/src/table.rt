@@ -1,7 +1,7 @@
 // A table of words that a case lends: what stands in it before the call, and how it is shown after.
 use line::Page;
 
-// A word of such a table, of 32 or 64 bits.
+// A word of such a table, of 32 or 64 bits. It has no laws, since the battery promises no bytes.
 pub trait Word: Copy + Into<u64> {
     // The number above it; above the largest stands 0.
     fn next(self) -> Self;

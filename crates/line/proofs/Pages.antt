@@ -43,15 +43,6 @@ put_all b xs a i h p = rw (take_all i xs h) at p
 -- what a walk asks for
 pub ruleset page_laws = (put_both, put_next, put_nothing)
 
--- No byte that the page has is lost, and it does not grow past its room.
-pub put_behind : (b xs a : List ℕ) → Put b xs a → length b ≤ length a
-unfolding page_with
-put_behind b xs a p = omega (arith, ap length p, length-append b (take (room - length b) xs))
-
-pub put_within : (b xs a : List ℕ) → Put b xs a → length b ≤ room → length a ≤ room
-unfolding page_with
-put_within b xs a p h = omega (arith, ap length p, length-append b (take (room - length b) xs), length-take (room - length b) xs)
-
 -- What is put on an empty page is all that the page has, where there is room for it.
 pub put_whole : (xs a : List ℕ) → Put [] xs a → length xs ≤ room → a ≡ xs
 unfolding page_with

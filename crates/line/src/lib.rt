@@ -29,7 +29,7 @@ impl Model for Page {
 }
 
 impl Page {
-    pub fn new() -> Self
+    pub fn new() -> Page
         ensures { result ≡ [] }
     {
         Page {
@@ -43,6 +43,7 @@ impl Page {
         ensures value { result ≡ length self.now }
         ensures within { result ≤ room }
     {
+        // No invariant says that `len` is within the room.
         self.len.min(ROOM)
     }
 
@@ -63,13 +64,14 @@ impl Page {
         }
     }
 
-    #[tactic(auto, using(crate::proofs::Pages::page_laws))]
+    // Of a text a page takes as many bytes as it has room for.
     pub fn text(&mut self, bytes: &[u8])
         ensures { Put self.old bytes.now self.new }
     {
-        for &byte in bytes {
-            self.put(byte);
-        }
+        let len = self.len();
+        let more = bytes.len().min(ROOM - len);
+        self.bytes[len..len + more].copy_from_slice(&bytes[..more]);
+        self.len = len + more;
     }
 
     // Digits are put one by one, here and in hexadecimal: `write!` would make of each line a `fmt::Result` that is never an `Err`.

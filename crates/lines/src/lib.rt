@@ -5,7 +5,8 @@ ghost use Rattle.std.specs.Prelude.{[], ◌*◌, ◌≡◌, ◌≤◌, length, t
 ghost use Rattle.loadfile.specs.Calls.{shown_name};
 ghost use Rattle.rules.specs.Rows.{row_at as Rows·row_at, rows_in};
 ghost use Rattle.line.specs.Pages.{Put};
-ghost use Rattle.lines.specs.Lines.{counts_line, named_row, refused_line, row_lines, runs as Lines·runs, shown as Lines·shown, start_finish};
+ghost use Rattle.lines.specs.Lines.{counts_line, named_row, refused_line, row_lines};
+ghost use Rattle.lines.specs.Lines.{runs as Lines·runs, shown as Lines·shown, start_finish};
 
 use line::Page;
 use load::refusal::Refusal;

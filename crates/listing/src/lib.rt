@@ -10,8 +10,8 @@ use line::Page;
 use load::refusal::Refusal;
 use rules::record::FlowRecord;
 
-// Puts the lines of the file's plan, or says why the file is refused. The tables have room for 1,024 blocks and 512 rows; the plan call is asked for the
-// first 512 blocks, and lent just the words of the blocks that were read. Of the flow records nothing is printed.
+// Puts the lines of the file's plan, or says why the file is refused. The tables have room for 1,024 blocks and 512 rows; the plan
+// call is asked for the first 512 blocks, and lent just the words of the blocks that were read. Of the flow records nothing is printed.
 fn plan(file: &[u8], page: &mut Page) -> Result<(), Refusal>
     ensures lines { OnOk result (Put page.old (listing file.now) page.new) }
     ensures refused { IfErr result

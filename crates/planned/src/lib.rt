@@ -17,9 +17,7 @@ fn lend(
     let rows = rows.get_mut(..given.row_words).ok_or(BadCase)?;
     table::mark(rows, 6_000_000_000);
     let planned = mr3::plan(given.counts, given.limit, blocks, flows, rows);
-    let mut counts = [0; 6];
-    let number = words::put(planned, &mut counts);
-    answer::put(out, b"plan", number, &counts);
+    answer::put(out, b"plan", planned);
     answer::put_tables(out, flows, rows);
     Ok(())
 }
@@ -33,10 +31,11 @@ pub fn run(
     table: &mut [u32],
     rows: &mut [u64],
 ) -> Result<(), BadCase> {
-    if given.len() != 40 || blocks.len() % 4 != 0 {
+    let given = <[u8; 40]>::try_from(given).map_err(|_| BadCase)?;
+    if blocks.len() % 4 != 0 {
         return Err(BadCase);
     }
     let table = table.get_mut(..blocks.len() / 4).ok_or(BadCase)?;
     parameters::fill(table, blocks);
-    lend(out, parameters::read(given), table, rows)
+    lend(out, Parameters::from(given), table, rows)
 }
