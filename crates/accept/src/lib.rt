@@ -35,7 +35,7 @@ fn short(
         || row_words < 15 * listed(limit, counts.blocks)
 }
 
-// Tests 8 to 11, block by block.
+// Tests 8 to 11, block by block. Counts and blocks are apart, as the call has them: a `Load` is what passes.
 fn test_blocks(counts: Counts, blocks: &[u32]) -> Result<(), Refusal>
     requires { (counts.blocks ≤ 1024) × (6 * counts.blocks ≤ length blocks.now) }
     ensures { result ≡ blocks_verdict counts 0 counts.blocks blocks.now }

@@ -43,7 +43,8 @@ fn arrive(planner: &mut Planner, flow: usize)
     planner.list.join(Entry { flow, excess: 0 });
 }
 
-// The tick at which a block arrives.
+// The tick at which a block arrives. It is a function of its own since docs/PROMISES.md promises its theorem by name,
+// `arrival_once`.
 #[tactic(auto, unfolding(rules::specs::Load::block_at))]
 pub fn arrival(blocks: &[u32], block: usize) -> u64
     requires { HasBlock blocks.now block }
@@ -58,6 +59,7 @@ pub fn up_to(load: &Load<'_>, planner: &mut Planner, tick: u64)
     ensures { CoreBecomes (up_to (the_load load.now) planner.old.mode tick) planner.old planner.new }
 {
     planner.core.clock = tick;
+    // By its place, from which on the next call goes on.
     for place in planner.core.next..load.counts.blocks {
         let block = load.block(place);
         if tick < u64::from(block.arrival) {

@@ -17,7 +17,8 @@ pub struct Core {
 }
 
 // The planner with all that it changes as it goes on: beside mode and core the list of waiting flows, the flows' queues, and for
-// each flow its gate, the tick before which its next turn does not start.
+// each flow its gate, the tick before which its next turn does not start. It has no invariant: what a function asks of it holds where
+// that is called, and would ask more of every other. A load is handed on beside it, since it stays as it is.
 #[derive(Debug, Drop)]
 pub struct Planner {
     pub mode: Mode,

@@ -7,7 +7,8 @@ ghost use Rattle.body.specs.Body.{table_words};
 use load::counts::Counts;
 use records::record;
 
-// Writes the blocks whose records start at `from`, and leaves the room beyond them.
+// Writes the blocks whose records start at `from`, and leaves the room beyond them. It asks only what it needs: a type of files
+// with a header would ask more.
 pub fn fill(file: &[u8], counts: Counts, from: usize, table: &mut [u32])
     requires in_range { (counts.stages ≤ 4) × (from ≤ length file.now) × (6 * counts.blocks ≤ length table.old) }
     requires sound { walk_of (block_records file.now counts 0 counts.blocks from) ≡ Ok (length file.now) }

@@ -8,7 +8,8 @@ use load::counts::Counts;
 use load::refusal::Refusal;
 use records::bytes::{four, two};
 
-// The counts that a file of at least ten bytes gives, good or not.
+// The counts that a file of at least ten bytes gives, good or not. The caller knows that they are there, which `From` could not ask,
+// and a type of files with a header would ask more of those who read records alone.
 #[tactic(auto, unfolding(crate::specs::Header::counts_in))]
 pub fn counts(file: &[u8]) -> Counts
     requires { 10 ≤ length file.now }

@@ -86,7 +86,8 @@ fn row(page: &mut Page, file: &[u8], stages: usize, row: Row)
     page.end();
 }
 
-// The row that these words hold: block, flow, round, turn, balance, hold, dominant stage, and the runs.
+// The row that these words hold: block, flow, round, turn, balance, hold, dominant stage, and the runs. The caller knows that they
+// are there, and `From` could not ask it.
 #[tactic(auto, unfolding(rules::specs::Rows::row_at))]
 fn row_at(words: &[u64]) -> Row
     requires { 15 ≤ length words.now }

@@ -14,7 +14,7 @@ use rules::record::FlowRecord;
 use start::{origin, step};
 
 // The first `limit` blocks of the plan, or all of them: their rows, the flows' records, and the counts.
-// The blocks and the rows stay flat words, as C lends them.
+// The parameters are the call's own, which C hands over one by one; the blocks and the rows stay flat words, as C lends them.
 pub fn plan(
     counts: Counts,
     limit: u64,

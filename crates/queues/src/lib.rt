@@ -35,6 +35,7 @@ impl Queues {
         requires { self.old ≡ unlinked }
         ensures { Follows (load_of load.now.counts load.now.blocks.now) (replicate most 0) self.new }
     {
+        // By its place, which is what is linked.
         for place in (0..load.counts.blocks).rev() {
             let flow = load.block(place).flow as usize;
             self.next[place] = self.oldest[flow];

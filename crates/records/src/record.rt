@@ -69,7 +69,8 @@ pub fn fields(rest: &[u8], stages: usize) -> Block
     }
 }
 
-// A block's record below a block that arrives at `above` (0 for the first): 5, then 8 to 11.
+// A block's record below a block that arrives at `above` (0 for the first): 5, then 8 to 11. It asks only what it needs, so no type
+// of counts serves here and where all are tested.
 #[tactic(auto, using(crate::proofs::Records::measure_within), unfolding(crate::specs::Records::block_record, crate::specs::Records::block_measured, crate::specs::Records::unless, crate::specs::Answers::block_found))]
 pub fn block(rest: &[u8], counts: Counts, above: u32) -> Result<Block, Refusal>
     requires { counts.stages ≤ 4 }
