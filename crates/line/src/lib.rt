@@ -123,11 +123,18 @@ impl Page {
         self.put(b'\n');
     }
 
+    // The bytes put so far, for a caller that shows them itself.
+    pub fn as_slice(&self) -> &[u8]
+        ensures { result.now ≡ self.now }
+    {
+        &self.bytes[..self.len()]
+    }
+
     // Writes the page. No other function of the libraries writes what a program prints.
     pub fn write<W: Write>(&self, to: &mut W) -> io::Result<()>
         ensures { OnOk result (Appends (W.contents to.old) (W.contents to.new) self.now) }
     {
-        to.write_all(&self.bytes[..self.len()])
+        to.write_all(self.as_slice())
     }
 }
 
