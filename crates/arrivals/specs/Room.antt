@@ -8,7 +8,7 @@ use Rattle.rules.specs.Unstarted.{front, held, Queue}
 use Rattle.rules.specs.Waiting.{listed, Lists}
 use Rattle.queues.specs.declared.Queues.{Queues}
 use Rattle.queues.specs.Queues.{Follows, oldest_in}
-use Rattle.arrivals.specs.declared.state.Planner.{Planner}
+use Rattle.arrivals.specs.State.{Planning}
 
 -- the table has a block at this place
 abbrev pub HasBlock : List ℕ → ℕ → Type 0
@@ -30,8 +30,8 @@ pub record Stands (L : Load) (m : Mode) (queues : Queues) (next : ℕ) (w : List
   pub queue : Queue L (front m ++ w) (held m ++ w) from next
 
 -- the same of a planner, which has mode, queues, next place and list
-abbrev pub TellsOf : Planner → ℕ → Type 0
+abbrev pub TellsOf : Planning → ℕ → Type 0
 TellsOf p f = Tells p.mode p.queues p.core.next p.list f
 
-abbrev pub StandsAt : Load → Planner → Type 0
+abbrev pub StandsAt : Load → Planning → Type 0
 StandsAt L p = Stands L p.mode p.queues p.core.next p.list

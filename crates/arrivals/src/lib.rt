@@ -6,14 +6,14 @@ ghost use Rattle.std.specs.Prelude.{◌≡◌, ◌<◌};
 ghost use Rattle.rules.specs.Load.{block_at};
 ghost use Rattle.rules.specs.Plan.{arrived, busy as Plan·busy, up_to};
 ghost use Rattle.rules.specs.Waiting.{Lists};
-ghost use Rattle.waiting.specs.Entries.{most};
+ghost use Rattle.waiting.specs.Entries.{entries_of, most};
 ghost use Rattle.accept.specs.Loads.{the_load};
 ghost use Rattle.arrivals.specs.Room.{HasBlock, StandsAt, TellsOf};
-ghost use Rattle.arrivals.specs.State.{CoreBecomes};
+ghost use Rattle.arrivals.specs.State.{CoreBecomes, planning};
 
 pub mod state;
 
-use crate::state::Planner;
+use crate::state::{Planner, Tables};
 use accept::accepted::Load;
 use load::block::Block;
 use rules::entry::Entry;
@@ -32,15 +32,16 @@ fn busy(mode: Mode, flow: usize) -> bool
 }
 
 // A block of a flow arrives, the next one. Where an older one waits, the flow is known already: the list is not searched.
-fn arrive(planner: &mut Planner, flow: usize)
-    requires in_range { (flow < most) × Lists most planner.old.list }
-    requires tells { TellsOf planner.old flow }
-    ensures { planner.new ≡ record planner.old { list = arrived planner.old.mode flow planner.old.list } }
+fn arrive(planner: &Planner, tables: &mut Tables, flow: usize)
+    requires in_range { (flow < most) × Lists most (entries_of tables.old.list) }
+    requires tells { TellsOf (planning planner.now tables.old) flow }
+    ensures { planning planner.now tables.new
+        ≡ record (planning planner.now tables.old) { list = arrived planner.now.mode flow (entries_of tables.old.list) } }
 {
-    if planner.queues.oldest(flow) < planner.core.next || busy(planner.mode, flow) {
+    if tables.queues.oldest(flow) < planner.core.next || busy(planner.mode, flow) {
         return;
     }
-    planner.list.join(Entry { flow, excess: 0 });
+    tables.list.join(Entry { flow, excess: 0 });
 }
 
 // The tick at which a block arrives. It is a function of its own since docs/PROMISES.md promises its theorem by name,
@@ -54,9 +55,9 @@ pub fn arrival(blocks: &[u32], block: usize) -> u64
 }
 
 // The clock moves to a tick, with the arrivals up to it.
-pub fn up_to(load: &Load<'_>, planner: &mut Planner, tick: u64)
-    requires stands { StandsAt (the_load load.now) planner.old }
-    ensures { CoreBecomes (up_to (the_load load.now) planner.old.mode tick) planner.old planner.new }
+pub fn up_to(load: &Load<'_>, planner: &mut Planner, tables: &mut Tables, tick: u64)
+    requires stands { StandsAt (the_load load.now) (planning planner.old tables.old) }
+    ensures { CoreBecomes (up_to (the_load load.now) planner.old.mode tick) (planning planner.old tables.old) (planning planner.new tables.new) }
 {
     planner.core.clock = tick;
     // By its place, from which on the next call goes on.
@@ -65,7 +66,7 @@ pub fn up_to(load: &Load<'_>, planner: &mut Planner, tick: u64)
         if tick < u64::from(block.arrival) {
             return;
         }
-        arrive(planner, block.flow as usize);
+        arrive(planner, tables, block.flow as usize);
         planner.core.next = place + 1;
     }
 }

@@ -1,4 +1,6 @@
-// The planner between two starts: idle, or it holds a flow, or it is in a flow's turn with a balance.
+// The planner between two starts: idle, or it holds a flow, or it is in a flow's turn with a balance; and the tables beside it.
+ghost use Rattle.arrivals.specs.State.{Empty};
+
 use queues::Queues;
 use rules::mode::Mode;
 use rules::round::Round;
@@ -16,14 +18,36 @@ pub struct Core {
     pub way: Way,
 }
 
-// The planner with all that it changes as it goes on: beside mode and core the list of waiting flows, the flows' queues, and for
-// each flow its gate, the tick before which its next turn does not start. It has no invariant: what a function asks of it holds where
-// that is called, and would ask more of every other. A load is handed on beside it, since it stays as it is.
-#[derive(Debug, Drop)]
+// It has no invariant: what a function asks of it holds where that is called, and would ask more of every other. A load is handed on
+// beside it, since it stays as it is.
+#[derive(Clone, Copy, Debug, PartialEq, Eq)]
 pub struct Planner {
     pub mode: Mode,
     pub core: Core,
+}
+
+// What the planner keeps of the flows: the list of those that wait, their queues, and for each its gate, the tick before which its
+// next turn does not start. They stand beside mode and core, and not in one struct with them: in a struct with arrays that are
+// indexed LLVM keeps all in memory, and a plan takes 1.2 times as long.
+#[derive(Debug, Drop)]
+pub struct Tables {
     pub list: Waiting,
     pub queues: Queues,
     pub gate: [u64; 64],
+}
+
+impl Tables {
+    // Before the first arrival: nobody waits, and no flow has had a turn. The queues are any, since `link` makes them a load's.
+    pub fn new() -> Tables
+        ensures { Empty result }
+    {
+        Tables {
+            list: Waiting::new(),
+            queues: Queues {
+                oldest: [0; 64],
+                next: [0; 1024],
+            },
+            gate: [0; 64],
+        }
+    }
 }

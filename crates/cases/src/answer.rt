@@ -24,8 +24,10 @@ pub fn put<const N: usize, T: InWords<N>>(out: &mut Page, call: &[u8], answer: R
 pub fn put_tables(out: &mut Page, flows: &[FlowRecord], rows: &[u64])
     requires { length flows.now ≤ 128 }
 {
+    let mut words = [[0; 3]; 128];
+    record::write(&mut words, flows);
     out.text(b" |");
-    table::put(out, record::words(flows)[..flows.len()].as_flattened());
+    table::put(out, words[..flows.len()].as_flattened());
     out.text(b" |");
     table::put(out, rows);
 }

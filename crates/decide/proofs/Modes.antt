@@ -6,8 +6,7 @@ use Rattle.rules.specs.declared.mode.Mode.{Mode}
 use Rattle.rules.specs.declared.mode.Turn.{Turn}
 use Rattle.rules.specs.Load.{Load}
 use Rattle.rules.specs.Plan.{Core, onward, readied, settled, State, state, taken, tested, with_line, with_round}
-use Rattle.arrivals.specs.declared.state.Planner.{Planner}
-use Rattle.arrivals.specs.State.{Becomes, BecomesBy, settled_in}
+use Rattle.arrivals.specs.State.{Becomes, BecomesBy, Planning, settled_in}
 
 module _ (L : Load) (c : Core) where
   -- only a turn is tested
@@ -29,7 +28,7 @@ module _ (L : Load) (c : Core) where
   onward_stays (InTurn t) other = refl
 
 -- A turn is tested, and then the planner goes on by its mode.
-pub settles_by : (L : Load) (p q r : Planner) → BecomesBy L (tested L p.mode) p q → Becomes (onward L q.mode) q r → BecomesBy L (settled_in L p.mode) p r
+pub settles_by : (L : Load) (p q r : Planning) → BecomesBy L (tested L p.mode) p q → Becomes (onward L q.mode) q r → BecomesBy L (settled_in L p.mode) p r
 unfolding settled
 settles_by L p q r test on = record {
   state = λ from follows. on.state from ∙ ap (λ (s : State). onward L s.mode s.core) (test.state from follows);
@@ -38,7 +37,7 @@ settles_by L p q r test on = record {
 }
 
 -- The entry that has left the list as its head is called: the list is not the rule's to look at any more.
-pub called_head : (p q : Planner) (e : Entry) (w : List Entry) → p.list ≡ e ∷ w → Becomes (λ (c : Core). taken c (e ∷ w)) (record p { list = w }) q
+pub called_head : (p q : Planning) (e : Entry) (w : List Entry) → p.list ≡ e ∷ w → Becomes (λ (c : Core). taken c (e ∷ w)) (record p { list = w }) q
     → Becomes (λ (c : Core). taken c p.list) p q
 unfolding taken state with_line with_round
 called_head p q e w head call = rw head (record { state = call.state; queues = call.queues; gate = call.gate })

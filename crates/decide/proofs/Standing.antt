@@ -14,9 +14,8 @@ use Rattle.rules.specs.Within.{Accepted, Away}
 use Rattle.rules.proofs.Lists.{lists_join}
 use Rattle.rules.proofs.Whole.{turn_leaves, turn_rejoins}
 use Rattle.queues.specs.declared.Queues.{Queues}
-use Rattle.arrivals.specs.declared.state.Planner.{Planner}
 use Rattle.arrivals.specs.Room.{Stands}
-use Rattle.arrivals.specs.State.{BecomesBy, CoreBecomes, core_of}
+use Rattle.arrivals.specs.State.{BecomesBy, core_of, CoreBecomes, Planning}
 use Rattle.arrivals.proofs.Standing.{stands_as, stands_whole, up_to_stands}
 use Rattle.decide.specs.Room.{Settles, Takes}
 
@@ -34,7 +33,7 @@ module _ (L : Load) (ok : Accepted L) where
       (λ _. record { stands = s; number = refl })
 
   -- a turn is tested, where the queues follow the core's places
-  module _ (t : Turn) (p : Planner) (s : Stands L (InTurn t) p.queues p.core.next p.list) (away : Away L.counts.flows (InTurn t) p.list) where
+  module _ (t : Turn) (p : Planning) (s : Stands L (InTurn t) p.queues p.core.next p.list) (away : Away L.counts.flows (InTurn t) p.list) where
     abbrev at : Core
     at = core_of p s.from
 
@@ -45,7 +44,7 @@ module _ (L : Load) (ok : Accepted L) where
     unfolding Away rejoined with_line with_round
     rejoins x waiting = stands_as L (InTurn t) p.queues _ _ s Idle _ (lists_join _ s.lists away.0 away.1) (turn_rejoins L _ t at (stands_whole L (InTurn t) p.queues _ _ s) x waiting).1
 
-  tested_keeps : (m : Mode) (p : Planner) (s : Stands L m p.queues p.core.next p.list) → Away L.counts.flows m p.list → Keeps p.queues p.core.round (tested L m (core_of p s.from))
+  tested_keeps : (m : Mode) (p : Planning) (s : Stands L m p.queues p.core.next p.list) → Away L.counts.flows m p.list → Keeps p.queues p.core.round (tested L m (core_of p s.from))
   unfolding tested state rejoined with_line with_round noted
   tested_keeps Idle p s a = record { stands = s; number = refl }
   tested_keeps (Holds h) p s a = record { stands = s; number = refl }
@@ -57,13 +56,13 @@ module _ (L : Load) (ok : Accepted L) where
       (λ ends. record { stands = leaves t p s a ends; number = refl })
 
   -- the same of the code's: a flow is taken where the planner has woken, and where a turn has been tested
-  pub woken_takes : (p p' : Planner) → p.mode ≡ Idle → Takes L p → CoreBecomes (λ (x : Core). woken L x []) p p' → Takes L p'
+  pub woken_takes : (p p' : Planning) → p.mode ≡ Idle → Takes L p → CoreBecomes (λ (x : Core). woken L x []) p p' → Takes L p'
   unfolding state
   woken_takes p p' idle k e =
       let w = rw (← (e.core [])) at (woken_keeps p.queues (core_of p []) (rw idle at k.stands)) in
       record { stands = rw (e.mode ∙ idle, e.queues) w.stands; number = rw w.number k.number }
 
-  pub tested_takes : (p p' : Planner) → Settles L p → BecomesBy L (tested L p.mode) p p' → Takes L p'
+  pub tested_takes : (p p' : Planning) → Settles L p → BecomesBy L (tested L p.mode) p p' → Takes L p'
   tested_takes p p' k e =
       let stands = k.takes.stands in
       let w = rw (← (e.state stands.from stands.follows)) at (tested_keeps p.mode p stands k.away) in

@@ -33,8 +33,7 @@ use Rattle.rules.proofs.Accepting.{accepted}
 use Rattle.rules.proofs.Blocks.{dominant_within}
 use Rattle.rules.proofs.Bounds.{reached_within, step_within}
 use Rattle.rules.proofs.Sums.{one_most}
-use Rattle.arrivals.specs.declared.state.Planner.{Planner}
-use Rattle.arrivals.specs.State.{state_of}
+use Rattle.arrivals.specs.State.{Planning, state_of}
 use Rattle.queues.specs.Queues.{Follows, most}
 use Rattle.start.specs.Starting.{Steps}
 use Rattle.start.specs.declared.step.Start.{Start}
@@ -104,7 +103,7 @@ module _ (c : Counts) (n : ℕ) (table : List ℕ) (fs₀ : List FlowRecord) (ws
 
   -- The planner stands for a state that so many starts led to, and the rest of the plan from there makes of the counts
   -- and the tables what the call promises.
-  pub record Goes (i : ℕ) (p : Planner) (t : Tally) (fs : List FlowRecord) (ws : List ℕ) : Type 0 where
+  pub record Goes (i : ℕ) (p : Planning) (t : Tally) (fs : List FlowRecord) (ws : List ℕ) : Type 0 where
     pub accepted : Accepted L
     pub from : List ℕ
     pub follows : Follows L from p.queues
@@ -138,7 +137,7 @@ module _ (c : Counts) (n : ℕ) (table : List ℕ) (fs₀ : List FlowRecord) (ws
     pub flows_there : c.flows ≤ length fs₀
     flows_there = ok.1
 
-    module _ (p : Planner) (at : state_of p (replicate most 0) ≡ origin L) (follows : Follows L (replicate most 0) p.queues)
+    module _ (p : Planning) (at : state_of p (replicate most 0) ≡ origin L) (follows : Follows L (replicate most 0) p.queues)
         (t : Tally) (uncounted : (t.held ≡ 0) × (t.ticks ≡ 0)) where
       none_counted : summary_of c.stages 0 p.core t ≡ counts.none
       unfolding origin state up_to counts.none
@@ -168,7 +167,7 @@ module _ (c : Counts) (n : ℕ) (table : List ℕ) (fs₀ : List FlowRecord) (ws
           }
 
   -- ---- a start is made: the sums fit, and all goes on
-  pub record On (i : ℕ) (p : Planner) (t : Tally) (fs : List FlowRecord) (ws : List ℕ) (start : Start) (p' : Planner) : Type 0 where
+  pub record On (i : ℕ) (p : Planning) (t : Tally) (fs : List FlowRecord) (ws : List ℕ) (start : Start) (p' : Planning) : Type 0 where
     pub flow : start.row.flow < length fs
     pub fits : Fits (get_or fs start.row.flow unlisted) (one (ltb p.core.turns start.row.turn)) start.time
     pub held : t.held + one (ltb 0 start.row.hold) < 2 ^ 64
@@ -177,7 +176,7 @@ module _ (c : Counts) (n : ℕ) (table : List ℕ) (fs₀ : List FlowRecord) (ws
         → (rest : List ℕ) → rest ≡ row_words start.row ++ drop 15 (take (length ws - 15 * i) (drop (15 * i) ws))
         → Goes (i + 1) p' t' (noted fs p.core.turns start.row start.time) (put_mid (15 * i) (length ws - 15 * i) ws rest)
 
-module _ {c : Counts} {n : ℕ} {table : List ℕ} {fs₀ : List FlowRecord} {ws₀ : List ℕ} {i : ℕ} {p : Planner} {t : Tally} {fs : List FlowRecord} {ws : List ℕ}
+module _ {c : Counts} {n : ℕ} {table : List ℕ} {fs₀ : List FlowRecord} {ws₀ : List ℕ} {i : ℕ} {p : Planning} {t : Tally} {fs : List FlowRecord} {ws : List ℕ}
     (g : Goes c n table fs₀ ws₀ i p t fs ws) where
   abbrev s : State
   s = state_of p g.from
@@ -191,11 +190,11 @@ module _ {c : Counts} {n : ℕ} {table : List ℕ} {fs₀ : List FlowRecord} {ws
   goes_ready more = record { from = g.from; follows = g.follows; starts = i; more = omega arith; reached = g.reached }
 
   -- there is a start for each that is left
-  pub there_is_one : {P : Type 0} → i < min n c.blocks → (p' : Planner) → Answers (load_of c table) p None p' g.from (step (load_of c table) s) → P
+  pub there_is_one : {P : Type 0} → i < min n c.blocks → (p' : Planning) → Answers (load_of c table) p None p' g.from (step (load_of c table) s) → P
   unfolding Answers
   there_is_one more p' answers = never_done (load_of c table) i s g.accepted g.reached (omega arith) answers.0
 
-  pub goes_on : i < min n c.blocks → {start : Start} {p' : Planner}
+  pub goes_on : i < min n c.blocks → {start : Start} {p' : Planning}
       → Answers (load_of c table) p (Some start) p' g.from (step (load_of c table) s) → On c n table fs₀ ws₀ i p t fs ws start p'
   unfolding Answers latest recorded row_words way_words
   goes_on more {start} {p'} answers =

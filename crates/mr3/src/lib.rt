@@ -4,6 +4,7 @@
 ghost use Rattle.rules.specs.Calls.{Plans};
 
 use accept::accepted;
+use arrivals::state::Tables;
 use load::counts::Counts;
 use load::refusal::Refusal;
 use progress::record;
@@ -26,13 +27,14 @@ pub fn plan(
 {
     let load = accepted::accept(counts, limit, blocks, flows.len(), rows.len())?;
     record::empty(&mut flows[..counts.flows]);
-    let mut planner = origin::origin(&load);
+    let mut tables = Tables::new();
+    let mut planner = origin::origin(&load, &mut tables);
     let mut tally = Tally::default();
     let listed = accept::listed(limit, counts.blocks);
     for i in 0..listed {
         // By the turns before it a start tells whether it begins one.
         let turns = planner.core.turns;
-        let Some(start) = step::step(&load, &mut planner) else {
+        let Some(start) = step::step(&load, &mut planner, &mut tables) else {
             // This is never reached: there is a start for each block that is listed.
             break;
         };

@@ -9,13 +9,13 @@ ghost use Rattle.queues.specs.Queues.{advanced, Follows, most, none, oldest_in, 
 use accept::accepted::Load;
 
 // The place past all blocks stands for none, so one comparison with how many have arrived tells whether a block waits.
-const NONE: u32 = 1024;
+pub const NONE: u32 = 1024;
 
-// For each flow the place of its oldest block, and for each block the place of the next one of its flow.
-#[derive(Debug, Drop)]
+// For each flow the place of its oldest block, and for each block the place of the next one of its flow. Any words are such queues.
+#[derive(Clone, Copy, Debug)]
 pub struct Queues {
-    oldest: [u32; 64],
-    next: [u32; 1024],
+    pub oldest: [u32; 64],
+    pub next: [u32; 1024],
 }
 
 impl Queues {
@@ -30,11 +30,12 @@ impl Queues {
         }
     }
 
-    // Links all blocks, from the last to the first: what was the oldest block of a flow comes next after the one before it.
+    // Links all blocks, from the last to the first: what was the oldest block of a flow comes next after the one before it. Whatever
+    // was linked before is forgotten, where it lies: queues that were made for each call would be copied to their place.
     pub fn link(&mut self, load: &Load<'_>)
-        requires { self.old ≡ unlinked }
         ensures { Follows (load_of load.now.counts load.now.blocks.now) (replicate most 0) self.new }
     {
+        self.oldest = [NONE; 64];
         // By its place, which is what is linked.
         for place in (0..load.counts.blocks).rev() {
             let flow = load.block(place).flow as usize;

@@ -19,9 +19,8 @@ use Rattle.rules.proofs.Whole.{moved_whole, reached_whole, settled_whole, turn_b
 use Rattle.queues.specs.declared.Queues.{Queues}
 use Rattle.queues.specs.Queues.{advanced, Follows, oldest_in}
 use Rattle.queues.proofs.Linking.{follows_on}
-use Rattle.arrivals.specs.declared.state.Planner.{Planner}
 use Rattle.arrivals.specs.Room.{Stands, StandsAt}
-use Rattle.arrivals.specs.State.{BecomesBy, CoreBecomes, core_of, settled_in, state_of}
+use Rattle.arrivals.specs.State.{BecomesBy, core_of, CoreBecomes, Planning, settled_in, state_of}
 use Rattle.arrivals.proofs.Standing.{stands_as, stands_whole, up_to_stands, whole_stands}
 use Rattle.decide.specs.Room.{Settles}
 use Rattle.decide.proofs.Deciding.{the_oldest, turn_below, waits_for}
@@ -35,7 +34,7 @@ pub record At (L : Load) (queues : Queues) (s : State) : Type 0 where
   pub whole : Whole L starts s.mode s.core
   pub follows : Follows L s.core.from queues
 
-pub steps_at : (L : Load) → Accepted L → (p : Planner) (s : Steps L p) → At L p.queues (state_of p s.from)
+pub steps_at : (L : Load) → Accepted L → (p : Planning) (s : Steps L p) → At L p.queues (state_of p s.from)
 steps_at L ok p s = record {
   starts = s.starts;
   more = s.more;
@@ -45,7 +44,7 @@ steps_at L ok p s = record {
 }
 
 -- so is the settled state
-pub settled_at : (L : Load) → Accepted L → (p : Planner) (s : Steps L p) (q : Planner) → BecomesBy L (settled_in L p.mode) p q → At L q.queues (state_of q s.from)
+pub settled_at : (L : Load) → Accepted L → (p : Planning) (s : Steps L p) (q : Planning) → BecomesBy L (settled_in L p.mode) p q → At L q.queues (state_of q s.from)
 settled_at L ok p s q becomes =
     let e = becomes.state s.from s.follows in
     let w = steps_at L ok p s in
@@ -61,7 +60,7 @@ way_within : (w : Way) (k : ℕ) → k ≤ 1024 → WayWithin w (latest k) → W
 unfolding latest
 way_within w k h v = record { one = omega arith; two = omega arith; three = omega arith; four = omega arith }
 
-module _ (L : Load) (ok : Accepted L) (p : Planner) (from : List ℕ) (s : At L p.queues (state_of p from)) where
+module _ (L : Load) (ok : Accepted L) (p : Planning) (from : List ℕ) (s : At L p.queues (state_of p from)) where
   few : s.starts ≤ 1024
   few = omega (arith, s.more, ok.blocks)
 
@@ -106,7 +105,7 @@ module _ (L : Load) (ok : Accepted L) (p : Planner) (from : List ℕ) (s : At L 
       (omega (arith, a.0, ok.flows), omega (arith, w.2, few))
 
 -- a held flow's turn begins at the end of the hold
-pub held_starts : (L : Load) → Accepted L → (h : HeldFlow) (tick : ℕ) (p q : Planner) → p.mode ≡ Holds h → tick ≤ most → Starts L (Holds h) p
+pub held_starts : (L : Load) → Accepted L → (h : HeldFlow) (tick : ℕ) (p q : Planning) → p.mode ≡ Holds h → tick ≤ most → Starts L (Holds h) p
     → CoreBecomes (λ (c : Core). begun (up_to L p.mode tick c)) p q → Starts L (InTurn (turn_of h (core_of p []))) q
 unfolding Away begun turn_of up_to
 held_starts L ok h tick p q held in-time s e =
@@ -122,7 +121,7 @@ held_starts L ok h tick p q held in-time s e =
     }
 
 -- the oldest block of the flow in its turn starts, and the time of block x is spent
-pub moved_stands : (L : Load) → Accepted L → (t : Turn) (p : Planner) → Starts L (InTurn t) p → (b : ℕ) → b ≡ oldest_in p.queues t.flow → b < p.core.next → (x : Block)
+pub moved_stands : (L : Load) → Accepted L → (t : Turn) (p : Planning) → Starts L (InTurn t) p → (b : ℕ) → b ≡ oldest_in p.queues t.flow → b < p.core.next → (x : Block)
     → Stands L (InTurn (spent t x)) (advanced p.queues t.flow b) p.core.next p.list
 unfolding Away spent
 moved_stands L ok t p s b is waits x =
@@ -141,7 +140,7 @@ moved_stands L ok t p s b is waits x =
     }
 
 -- the step is the start from the settled state
-pub step_is : (L : Load) (p q : Planner) → BecomesBy L (settled_in L p.mode) p q → (from : List ℕ) → Follows L from p.queues → (m : Mode) → q.mode ≡ m
+pub step_is : (L : Load) (p q : Planning) → BecomesBy L (settled_in L p.mode) p q → (from : List ℕ) → Follows L from p.queues → (m : Mode) → q.mode ≡ m
     → started L m (core_of q from) ≡ step L (state_of p from)
 unfolding step
 step_is L p q becomes from follows m mode = rw (← mode) (ap (λ (s : State). started L s.mode s.core) (becomes.state from follows))

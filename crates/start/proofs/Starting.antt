@@ -15,15 +15,14 @@ use Rattle.rules.specs.Stages.{last_run}
 use Rattle.rules.specs.Within.{Accepted}
 use Rattle.rules.proofs.Blocks.{dominant_within}
 use Rattle.queues.specs.Queues.{Follows, most, oldest_in}
-use Rattle.arrivals.specs.declared.state.Planner.{Planner}
-use Rattle.arrivals.specs.State.{core_of, state_of}
+use Rattle.arrivals.specs.State.{core_of, Planning, state_of}
 use Rattle.decide.proofs.Deciding.{starts, starts_not, the_oldest}
 use Rattle.start.specs.declared.step.Start.{Start}
 use Rattle.start.specs.Next.{Answers, oldest_started, past}
 use Rattle.start.specs.Starting.{Due}
 
 -- the row of a flow's oldest block that waits
-module _ (L : Load) (p : Planner) (t : Turn) (hold o : ℕ) (s : Start) (row : (from : List ℕ) → s.row ≡ row_of L (core_of p from) t hold o) where
+module _ (L : Load) (p : Planning) (t : Turn) (hold o : ℕ) (s : Start) (row : (from : List ℕ) → s.row ≡ row_of L (core_of p from) t hold o) where
   block_is : s.row.block ≡ o
   unfolding row_of
   block_is = ap (λ (r : Row). r.block) (row [])
@@ -36,7 +35,7 @@ module _ (L : Load) (p : Planner) (t : Turn) (hold o : ℕ) (s : Start) (row : (
   row_as from = subst (λ (b : ℕ). s.row ≡ row_of L (core_of p from) t hold b) (sym block_is) (row from)
 
 -- its time is one of the load's
-pub due_short : (L : Load) → Accepted L → (p : Planner) (t : Turn) (s : Start) → Due L p t s → p.core.next ≤ L.counts.blocks → s.time ≤ 10_000_000
+pub due_short : (L : Load) → Accepted L → (p : Planning) (t : Turn) (s : Start) → Due L p t s → p.core.next ≤ L.counts.blocks → s.time ≤ 10_000_000
 due_short L ok p t s due arrived =
     let short = dominant_within (ok.each s.row.block (omega (arith, due.waits))) in
     omega (arith, short, due.time)
@@ -45,7 +44,7 @@ abbrev started_by : Row → State → Started
 started_by r s = record { row = r; then = s }
 
 -- A start is made in turn t from the planner p on, where the queues follow `from`.
-module _ (L : Load) (p : Planner) (t : Turn) (from : List ℕ) (follows : Follows L from p.queues) (arrived : p.core.next ≤ L.counts.blocks) (below : t.flow < most) where
+module _ (L : Load) (p : Planning) (t : Turn) (from : List ℕ) (follows : Follows L from p.queues) (arrived : p.core.next ≤ L.counts.blocks) (below : t.flow < most) where
   abbrev c : Core
   c = core_of p from
 
@@ -55,7 +54,7 @@ module _ (L : Load) (p : Planner) (t : Turn) (from : List ℕ) (follows : Follow
   none_starts hold empty = (starts_not L c p.queues follows arrived t.flow below _ refl _ empty, refl, refl)
 
   -- q is the planner after start s
-  module _ (s : Start) (due : Due L p t s) (q : Planner) where
+  module _ (s : Start) (due : Due L p t s) (q : Planning) where
     found : (hold : ℕ) → s.row ≡ row_of L c t hold s.row.block → s.row ≡ row_of L c t hold (oldest L c t.flow)
     found hold row = row ∙ ap (row_of L c t hold) (the_oldest L c p.queues follows arrived t.flow below s.row.block due.oldest due.waits)
 
@@ -95,17 +94,17 @@ begins_gated : (L : Load) (c : Core) (t : Turn) (hold : ℕ) → begins L c t ho
 unfolding begins oldest_started where_waits first after up_to state gated
 begins_gated L c t hold = gated_where (waits L c t.flow) (gated L t) _
 
-pub begins_not : (L : Load) (t : Turn) (hold : ℕ) (p q : Planner) (from : List ℕ) (c : Core) → Answers L p None q from (oldest_started L c t hold) → Answers L p None q from (begins L c t hold)
+pub begins_not : (L : Load) (t : Turn) (hold : ℕ) (p q : Planning) (from : List ℕ) (c : Core) → Answers L p None q from (oldest_started L c t hold) → Answers L p None q from (begins L c t hold)
 unfolding Answers
 begins_not L t hold p q from c empty = (begins_gated L c t hold ∙ ap (map (gated L t)) empty.0, empty.1, empty.2)
 
-pub begins_with : (L : Load) (t : Turn) (hold : ℕ) (s : Start) (p q : Planner) (from : List ℕ) (c : Core) → Answers L p (Some s) q from (oldest_started L c t hold)
+pub begins_with : (L : Load) (t : Turn) (hold : ℕ) (s : Start) (p q : Planning) (from : List ℕ) (c : Core) → Answers L p (Some s) q from (oldest_started L c t hold)
     → Answers L p (Some s) (record q { gate = set q.gate t.flow (last_run L.counts.stages s.row.way).start }) from (begins L c t hold)
 unfolding Answers gated
 begins_with L t hold s p q from c made = (begins_gated L c t hold ∙ ap (map (gated L t)) made.0, made.1, made.2)
 
 -- what came before the start left queues and gate
-pub answers_since : (L : Load) (p p' : Planner) (n : Option Start) (q : Planner) (from : List ℕ) (o : OptionOf Started) → p'.queues ≡ p.queues → p'.gate ≡ p.gate
+pub answers_since : (L : Load) (p p' : Planning) (n : Option Start) (q : Planning) (from : List ℕ) (o : OptionOf Started) → p'.queues ≡ p.queues → p'.gate ≡ p.gate
     → Answers L p' n q from o → Answers L p n q from o
 unfolding Answers
 answers_since L p p' None q from o queues gate a = (a.0, a.1 ∙ queues, a.2 ∙ gate)

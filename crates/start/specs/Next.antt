@@ -7,8 +7,7 @@ use Rattle.rules.specs.declared.row.Row.{Row}
 use Rattle.rules.specs.Load.{block_at, Load}
 use Rattle.rules.specs.Plan as plan
 use Rattle.arrivals.specs.declared.state.Core.{Core}
-use Rattle.arrivals.specs.declared.state.Planner.{Planner}
-use Rattle.arrivals.specs.State.{state_of}
+use Rattle.arrivals.specs.State.{Planning, state_of}
 use Rattle.queues.specs.Queues.{Follows}
 use Rattle.start.specs.declared.step.Start.{Start}
 
@@ -18,7 +17,7 @@ past from r = set from r.flow (r.block + 1)
 
 -- From planner p on the answer is the definition's start, or that there is none, where the queues followed `from`; and so do those
 -- of planner q after it. Where there is none, queues and gate stay.
-unfoldable pub Answers : Load → Planner → Option Start → Planner → List ℕ → OptionOf plan.Started → Type 0
+unfoldable pub Answers : Load → Planning → Option Start → Planning → List ℕ → OptionOf plan.Started → Type 0
 Answers L p None q from o = (o ≡ none) × (q.queues ≡ p.queues) × (q.gate ≡ p.gate)
 Answers L p (Some s) q from o =
     (o ≡ some (record { row = s.row; then = state_of q (past from s.row) }))

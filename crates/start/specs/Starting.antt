@@ -8,9 +8,8 @@ use Rattle.rules.specs.declared.mode.Turn.{Turn}
 use Rattle.rules.specs.Load.{block_at, Load}
 use Rattle.rules.specs.Within.{Away, Reached, WayWithin}
 use Rattle.arrivals.specs.declared.state.Core.{Core}
-use Rattle.arrivals.specs.declared.state.Planner.{Planner}
 use Rattle.arrivals.specs.Room.{Stands}
-use Rattle.arrivals.specs.State.{state_of}
+use Rattle.arrivals.specs.State.{Planning, state_of}
 use Rattle.queues.specs.Queues.{Follows, oldest_in}
 use Rattle.start.specs.declared.step.Start.{Start}
 
@@ -24,7 +23,7 @@ pub record Timed (c : Core) : Type 0 where
   pub way : WayWithin c.way most
 
 -- where a block may start in this mode, or its flow's hold may end
-pub record Starts (L : Load) (m : Mode) (p : Planner) : Type 0 where
+pub record Starts (L : Load) (m : Mode) (p : Planning) : Type 0 where
   pub stands : Stands L m p.queues p.core.next p.list
   pub away : Away L.counts.flows m p.list
   pub timed : Timed p.core
@@ -37,18 +36,18 @@ abbrev pub HeldFits : HeldFlow → List ℕ → Type 0
 HeldFits h gate = (h.flow < 64) × (h.excess ≤ most) × (h.ready ≤ most) × (get_or gate h.flow 0 ≤ most)
 
 -- where a block of this turn may start
-abbrev pub TurnStarts : Load → Turn → Planner → Type 0
+abbrev pub TurnStarts : Load → Turn → Planning → Type 0
 TurnStarts L t p = Starts L (InTurn t) p × TurnFits t
 
 -- the start of the oldest block of the flow in its turn, which waits
-pub record Due (L : Load) (p : Planner) (t : Turn) (s : Start) : Type 0 where
+pub record Due (L : Load) (p : Planning) (t : Turn) (s : Start) : Type 0 where
   pub oldest : s.row.block ≡ oldest_in p.queues t.flow
   pub waits : s.row.block < p.core.next
   pub flow : s.row.flow ≡ t.flow
   pub time : s.time ≡ dominant_time (block_at L.table s.row.block)
 
 -- a state that so many starts led to, and that isn't the last; the queues follow its places
-pub record Steps (L : Load) (p : Planner) : Type 0 where
+pub record Steps (L : Load) (p : Planning) : Type 0 where
   pub from : List ℕ
   pub follows : Follows L from p.queues
   pub starts : ℕ

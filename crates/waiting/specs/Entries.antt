@@ -1,6 +1,7 @@
 -- The list of waiting flows as its places stand for it, the room that it has, and what taking its head answers and leaves.
 use Rattle.std.specs.Prelude.{ℕ, zero, suc, ◌+◌, ◌%◌, ◌≤◌, ◌<◌, List, [], ◌∷◌, length, get_or, Option, None, Some}
 use Rattle.rules.specs.declared.entry.Entry.{Entry}
+use Rattle.waiting.specs.declared.Waiting.{Waiting}
 
 -- how many entries there is room for
 abbrev pub most : ℕ
@@ -29,6 +30,9 @@ from (suc k) n s = entry_at (place_of n) s ∷ from k (n + 1) s
 -- THE LIST: `count` entries from the place of `head` on. Only the proofs of this crate unfold it.
 unfoldable pub entries : List Entry → (head count : ℕ) → List Entry
 entries s head count = from count (place_of head) s
+
+abbrev pub entries_of : Waiting → List Entry
+entries_of w = entries w.places w.head w.count
 
 -- the head of the list, as taking it answers, and what stays
 unfoldable pub head_of : List Entry → Option Entry

@@ -3,37 +3,27 @@
 #![tactic(auto)]
 
 ghost use Rattle.std.specs.Prelude.{◌≡◌, [], ◌∷◌, ◌++◌, length};
-ghost use Rattle.waiting.specs.Entries.{Fits, head_of, rest_of, Room};
+ghost use Rattle.waiting.specs.Entries.{entries_of, Fits, head_of, rest_of, Room};
 
 use rules::entry::Entry;
-use std::marker::Model;
 
 const PLACES: usize = 64;
 
 // The entries lie one behind the other from the head's place on, and after place 63 comes place 0, so none ever moves. Beside the
-// places stand the head's and how many entries there are: two ends alone would not tell 64 entries from none.
-#[derive(Debug, Drop)]
+// places stand the head's and how many entries there are: two ends alone would not tell 64 entries from none. Any values of the
+// fields are a list, so a caller may keep them as words of its own.
+#[derive(Clone, Copy, Debug)]
 pub struct Waiting {
-    places: [Entry; PLACES],
-    head: usize,
-    count: usize,
-}
-
-impl Model for Waiting {
-    ghost use Rattle.std.specs.Prelude.{List};
-    ghost use Rattle.rules.specs.declared.entry.Entry.{Entry};
-    ghost use Rattle.waiting.specs.Entries.{entries};
-
-    ghost Value = { List Entry };
-
-    ghost view = { λ w. entries w.places w.head w.count };
+    pub places: [Entry; PLACES],
+    pub head: usize,
+    pub count: usize,
 }
 
 impl Waiting {
     // At first nobody waits.
     #[tactic(auto, unfolding(crate::specs::Entries::entries, crate::specs::Entries::from))]
     pub fn new() -> Waiting
-        ensures { result ≡ [] }
+        ensures { entries_of result ≡ [] }
     {
         Waiting {
             places: [Entry::default(); PLACES],
@@ -45,7 +35,7 @@ impl Waiting {
     // How many flows wait.
     #[tactic(auto, using(crate::proofs::Places::length_entries))]
     pub fn len(&self) -> usize
-        ensures { result ≡ length self.now }
+        ensures { result ≡ length (entries_of self.now) }
     {
         self.count
     }
@@ -54,8 +44,8 @@ impl Waiting {
     // 64 stands for place 0, and no number leads out of the places.
     #[tactic(auto, using(crate::proofs::Places::length_entries))]
     pub fn join(&mut self, entry: Entry)
-        requires { Room self.old }
-        ensures { self.new ≡ self.old ++ (entry ∷ []) }
+        requires { Room (entries_of self.old) }
+        ensures { entries_of self.new ≡ entries_of self.old ++ (entry ∷ []) }
     {
         let tail = (self.head % PLACES + self.count) % PLACES;
         self.places[tail] = entry;
@@ -64,8 +54,8 @@ impl Waiting {
 
     // The head, if anyone waits, leaves the list: the place behind it is the head's then.
     pub fn take(&mut self) -> Option<Entry>
-        requires { Fits self.old }
-        ensures { (result ≡ head_of self.old) × (self.new ≡ rest_of self.old) }
+        requires { Fits (entries_of self.old) }
+        ensures { (result ≡ head_of (entries_of self.old)) × (entries_of self.new ≡ rest_of (entries_of self.old)) }
     {
         if self.count == 0 {
             return None;

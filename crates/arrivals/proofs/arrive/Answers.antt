@@ -6,12 +6,12 @@ use Rattle.rules.specs.Plan.{arrived}
 use Rattle.rules.specs.Waiting.{listed}
 use Rattle.rules.proofs.Lists.{lists_room}
 use Rattle.queues.specs.Queues.{oldest_in}
-use Rattle.arrivals.specs.declared.state.Planner.{Planner}
+use Rattle.arrivals.specs.State.{planning, Planning}
 use Rattle.arrivals.specs.Room.{TellsOf}
 use Rattle.arrivals.proofs.arrive.Goals as goal
 use Rattle.arrivals.proofs.arrive.Goals.{then-oldest-planner-via-then-oldest-planner, then-oldest-planner-via-else-oldest-planner+then-busy}
 
-not_listed : (p : Planner) (f : ℕ) → TellsOf p f → p.core.next ≤ oldest_in p.queues f → listed f p.list ≡ false
+not_listed : (p : Planning) (f : ℕ) → TellsOf p f → p.core.next ≤ oldest_in p.queues f → listed f p.list ≡ false
 not_listed p f t h = cases (listed f p.list) (λ e. absurd (omega (arith, t.waits e))) (λ e. e)
 
 pub returns-then-oldest-planner : goal.returns-then-oldest-planner
@@ -23,10 +23,10 @@ returns-then-oldest-planner c = elim c.then-oldest-planner.branch [
 
 pub join-requires : goal.join-requires
 join-requires c =
-    lists_room _ c.requires.in_range.1 c.requires.in_range.0 (not_listed c.args.planner.now _ c.requires.tells (omega (arith, c.oldest.ensures, c.if-oldest-planner.false)))
+    lists_room _ c.requires.in_range.1 c.requires.in_range.0 (not_listed (planning c.args.planner.now c.args.tables.now) _ c.requires.tells (omega (arith, c.oldest.ensures, c.if-oldest-planner.false)))
 
 pub returns : goal.returns
 unfolding arrived
 returns c =
-    let out = not_listed c.args.planner.now _ c.requires.tells (omega (arith, c.oldest.ensures, c.if-oldest-planner.false)) in
+    let out = not_listed (planning c.args.planner.now c.args.tables.now) _ c.requires.tells (omega (arith, c.oldest.ensures, c.if-oldest-planner.false)) in
     simp (c.join.ensures, ← c.busy.ensures, c.if-busy.false, out)

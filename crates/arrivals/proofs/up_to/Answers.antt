@@ -4,6 +4,7 @@ use Rattle.load.specs.declared.block.Block.{Block}
 use Rattle.rules.specs.Load.{block_at}
 use Rattle.rules.proofs.Lists.{lists_more}
 use Rattle.queues.proofs.Linking.{flow_below}
+use Rattle.arrivals.specs.State.{planning}
 use Rattle.arrivals.proofs.Arriving.{arrivals_late, arrivals_none}
 use Rattle.arrivals.proofs.Standing.{stands_tells}
 use Rattle.arrivals.proofs.Taking.{taking_ends, taking_next}
@@ -29,7 +30,7 @@ loop-place-preserved c =
     let at = c.loop-place in
     let due : (block_at c.args.load.now.blocks.now at.place).arrival ≤ c.args.tick = rw (← c.block-block.ensures) (omega (arith, c.from.ensures, c.if-tick-from.false)) in
     let flow = ap (λ (b : Block). b.flow) c.block-block.ensures in
-    taking_next _ _ _ c.args.load.now.accepted at.planner c.arrive.new.planner at.place _ (omega arith) due flow c.arrive.ensures at.invariant
+    taking_next _ _ _ c.args.load.now.accepted (planning at.planner at.tables) (planning at.planner c.arrive.new.tables) at.place _ (omega arith) due flow c.arrive.ensures at.invariant
 
 pub returns : goal.returns
 returns c = taking_ends _ _ _ _ _ c.loop-place.invariant (arrivals_none _ _ _ _ _ (omega arith))

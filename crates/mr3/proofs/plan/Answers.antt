@@ -3,6 +3,7 @@ use mathlib.Core.Path.{sym}
 use native.Mathlib.Omega.{arith}
 use lib.Seq.{length-take-le}
 use Rattle.std.proofs.lemmas.Result.{err_from_is_err_and}
+use Rattle.arrivals.specs.State.{planning}
 use Rattle.mr3.proofs.Goes.{flows_there, goes_ends, goes_first, goes_on, goes_ready, On, refused, there_is_one}
 use Rattle.mr3.proofs.plan.Goals as goal
 use Rattle.mr3.proofs.plan.Goals.{In-Some, else-loop-i-test, then-loop-i-test+in_default}
@@ -29,7 +30,7 @@ step-requires c =
     rw (lent.0, lent.1) (record { steps = goes_ready c.loop-i.invariant (omega arith) })
 
 -- what is noted and counted of this start
-on : (c : In-Some) → On c.args.counts c.args.limit c.args.blocks.now c.args.flows.now c.args.rows.now c.loop-i.i c.loop-i.planner c.loop-i.tally c.loop-i.flows c.loop-i.rows c.in-Some.start c.step.new.planner
+on : (c : In-Some) → On c.args.counts c.args.limit c.args.blocks.now c.args.flows.now c.args.rows.now c.loop-i.i (planning c.loop-i.planner c.loop-i.tables) c.loop-i.tally c.loop-i.flows c.loop-i.rows c.in-Some.start (planning c.step.new.planner c.step.new.tables)
 on c =
     let lent = c.in_ok-load.ensures.lent in
     goes_on c.loop-i.invariant (omega arith) ((simp (lent.0, lent.1) at c.in-Some.ensures) c.loop-i.invariant.from c.loop-i.invariant.follows)

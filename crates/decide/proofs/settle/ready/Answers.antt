@@ -2,6 +2,7 @@
 use Rattle.std.proofs.Common.{arith, length, sym, ap, ◌∙◌}
 use Rattle.rules.proofs.Lists.{lists_few}
 use Rattle.waiting.proofs.Heads.{head_empty, head_flow}
+use Rattle.arrivals.specs.State.{planning}
 use Rattle.decide.proofs.Deciding.{readied_takes, readied_wakes}
 use Rattle.decide.proofs.Modes.{called_head}
 use Rattle.decide.proofs.Standing.{woken_takes}
@@ -19,7 +20,7 @@ wake-requires-clause-stands c =
 pub take_head-requires-clause-fits : goal.take_head-requires-clause-fits
 take_head-requires-clause-fits c =
     let none = head_empty c.take.ensures.0 c.take.ensures.1 c.in_default.is in
-    let takes = woken_takes _ c.args.load.now.accepted c.args.planner.now _ c.requires.idle c.requires.takes (rw (none.1 ∙ sym none.0) at c.wake.ensures) in
+    let takes = woken_takes _ c.args.load.now.accepted (planning c.args.planner.now c.args.tables.now) _ c.requires.idle c.requires.takes (rw (none.1 ∙ sym none.0) at c.wake.ensures) in
     (omega (arith, lists_few takes.stands.lists, c.args.load.now.accepted.flows), takes.number)
 
 pub returns-in_default : goal.returns-in_default

@@ -6,7 +6,7 @@ use Rattle.rules.specs.Plan.{state}
 use Rattle.rules.specs.Within.{Away}
 use Rattle.rules.proofs.Lists.{lists_room}
 use Rattle.queues.specs.Queues.{most}
-use Rattle.arrivals.specs.State.{core_of}
+use Rattle.arrivals.specs.State.{core_of, planning}
 use Rattle.decide.proofs.Deciding.{tested_goes_on, tested_leaves, tested_rejoins, turn_below}
 use Rattle.decide.proofs.Modes.{tested_stays}
 use Rattle.decide.proofs.settle.test_turn.Goals as goal
@@ -50,7 +50,7 @@ returns-then-turn c =
     rw c.in-InTurn.is
     (record {
       state = λ from follows.
-          ap (λ (m : Mode). state m (core_of c.rejoin.new.planner from)) e.mode
+          ap (λ (m : Mode). state m (core_of (planning c.rejoin.new.planner c.rejoin.new.tables) from)) e.mode
           ∙ ap (state Idle) (e.core from)
           ∙ sym (tested_rejoins _ _ _ _ follows c.requires.settles.takes.stands.arrived own _ c.oldest.ensures c.if-planner-oldest.false (omega (arith, c.if-turn.true)));
       queues = e.queues;
