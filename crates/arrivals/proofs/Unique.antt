@@ -1,6 +1,6 @@
 -- Each call determines its answer, and the planner that it leaves.
-use Rattle.std.proofs.Common.{◌≡◌, ℕ, List, [], sym, ap, ◌∙◌}
-use Rattle.load.proofs.Once.{OneAnswer, OneExit}
+use Rattle.std.proofs.Common.{◌≡◌, ℕ, List, [], refl, sym, ap, ◌∙◌}
+use Rattle.load.proofs.Once.{OneAnswer, OneExit, OneValue}
 use Rattle.rules.specs.declared.entry.Entry.{Entry}
 use Rattle.rules.specs.declared.mode.Mode.{Mode}
 use Rattle.rules.specs.Plan as plan
@@ -8,6 +8,7 @@ use Rattle.waiting.specs.Entries.{entries_of}
 use Rattle.queues.specs.declared.Queues.{Queues}
 use Rattle.arrivals.specs.State.{core_of, planning, Planning}
 use Rattle.arrivals.proofs.arrival.Reads as arrival
+use Rattle.arrivals.proofs.state.Tables.new.Reads as tables
 use Rattle.arrivals.proofs.up_to.Reads as up_to_lem
 
 -- the code's planner, from the definition's mode and core and its queues
@@ -35,3 +36,7 @@ up_to_once κs a r r' s s' p q =
 
 pub up_to_leaves_once : OneExit up_to_lem.Post {A = List Entry} (λ κs s. entries_of s.1.1.0.now.list)
 up_to_leaves_once κs a r r' s s' p q = ap (λ (c : plan.Core). c.line.wait) (p.core [] ∙ sym (q.core []))
+
+-- of the queues, which are any, nothing is said
+pub tables_once : OneValue tables.Post {A = List Entry × List ℕ} (λ κs t. (entries_of t.list, t.gate))
+tables_once κs a r r' s s' p q = rw (p.list, p.gate, q.list, q.gate) refl
