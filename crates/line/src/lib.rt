@@ -1,36 +1,29 @@
 // What a program prints is made on a page, one byte behind the other, and written by one function.
 #![tactic(auto)]
 
-ghost use Rattle.std.specs.Prelude.{◌<◌, [], ◌∷◌, ◌≡◌, ◌≤◌, length, OnOk};
+ghost use Rattle.std.specs.Prelude.{◌<◌, [], ◌∷◌, ◌≡◌, ◌≤◌, length, replicate, OnOk};
 ghost use Rattle.std.specs.Io.KnownBytes.{Appends};
 ghost use Rattle.line.specs.Numerals.{decimal_of, hex_digit_ascii, hex_of, last_digits};
-ghost use Rattle.line.specs.Pages.{Put, room};
+ghost use Rattle.line.specs.Pages.{bytes_of, Put, room};
 
 use std::io;
 use std::io::Write;
-use std::marker::Model;
 
 // Room for the listing of a load: 512 lines of at most 326 bytes, and the line of the counts.
-const ROOM: usize = 196_608;
+pub const ROOM: usize = 196_608;
 
-#[derive(Drop)]
+// The first `len` of the bytes are there, and behind them is room. Any bytes with any `len` are a page, so a caller may lend bytes of its
+// own, and go on behind any of them. A page whose `len` is beyond the room is full.
+#[derive(Clone, Copy, Debug, PartialEq, Eq)]
 pub struct Page {
-    bytes: [u8; ROOM],
-    len: usize,
-}
-
-// Clauses see the bytes that were put, the first of them first.
-impl Model for Page {
-    ghost use Rattle.std.specs.Prelude.{ℕ, List, take};
-
-    ghost Value = { List ℕ };
-
-    ghost view = { λ p. take p.len p.bytes };
+    pub bytes: [u8; ROOM],
+    pub len: usize,
 }
 
 impl Page {
+    // A page that has no bytes. Its room holds zeros.
     pub fn new() -> Page
-        ensures { result ≡ [] }
+        ensures { result ≡ record { bytes = replicate room 0; len = 0 } }
     {
         Page {
             bytes: [0; ROOM],
@@ -40,16 +33,15 @@ impl Page {
 
     // How many bytes the page has.
     pub fn len(&self) -> usize
-        ensures value { result ≡ length self.now }
+        ensures value { result ≡ length (bytes_of self.now) }
         ensures within { result ≤ room }
     {
-        // No invariant says that `len` is within the room.
         self.len.min(ROOM)
     }
 
-    // Begins the page anew.
+    // Begins the page anew. What stood on it stays in its room until other bytes are put there.
     pub fn clear(&mut self)
-        ensures { self.new ≡ [] }
+        ensures { self.new ≡ record self.old { len = 0 } }
     {
         self.len = 0;
     }
@@ -71,7 +63,7 @@ impl Page {
         let len = self.len();
         let more = bytes.len().min(ROOM - len);
         self.bytes[len..len + more].copy_from_slice(&bytes[..more]);
-        self.len = len + more;
+        self.len += more;
     }
 
     // Digits are put one by one, here and in hexadecimal: `write!` would make of each line a `fmt::Result` that is never an `Err`.
@@ -125,14 +117,14 @@ impl Page {
 
     // The bytes put so far, for a caller that shows them itself.
     pub fn as_slice(&self) -> &[u8]
-        ensures { result.now ≡ self.now }
+        ensures { result.now ≡ bytes_of self.now }
     {
         &self.bytes[..self.len()]
     }
 
     // Writes the page. No other function of the libraries writes what a program prints.
     pub fn write<W: Write>(&self, to: &mut W) -> io::Result<()>
-        ensures { OnOk result (Appends (W.contents to.old) (W.contents to.new) self.now) }
+        ensures { OnOk result (Appends (W.contents to.old) (W.contents to.new) (bytes_of self.now)) }
     {
         to.write_all(self.as_slice())
     }

@@ -17,6 +17,7 @@ use Rattle.rules.specs.Plan.{plan}
 use Rattle.rules.specs.Rows.{rows_in, rows_words}
 use Rattle.rules.proofs.Demand3.{rows_back}
 use Rattle.rules.proofs.Whole.{plan_blocks, plan_length}
+use Rattle.line.specs.declared.Page.{Page}
 use Rattle.line.specs.Pages.{Put}
 use Rattle.line.proofs.Pages.{put_then}
 use Rattle.lines.specs.Lines.{counts_line, row_lines}
@@ -59,5 +60,5 @@ module _ {c : Counts} {table rows : List ℕ} {answer : Result Summary Refusal} 
     unfolding plan_lines
     lines_are file = rw (rows_are, counts_are) refl
 
-    pub plan_put : (file b m a : List ℕ) → Put b (counts_line s) m → Put m (row_lines file c.stages (rows_in s.blocks rowsThen)) a → Put b (plan_lines file c table) a
+    pub plan_put : (file : List ℕ) (b m a : Page) → Put b (counts_line s) m → Put m (row_lines file c.stages (rows_in s.blocks rowsThen)) a → Put b (plan_lines file c table) a
     plan_put file b m a p q = rw (lines_are file) (put_then b _ m _ a p q)

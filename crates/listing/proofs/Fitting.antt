@@ -1,8 +1,8 @@
 -- The page has room for every listing: the counts' line has at most 126 bytes, a row's at most 326, and the plan lists at most 512 blocks.
 use Prim.Native.Nat.{ℕ, suc, zero, ◌≤◌, min}
-use mathlib.Core.List.{List, []}
+use mathlib.Core.List.{List}
 use mathlib.Core.Option.{none as nothing, Option, some}
-use mathlib.Core.Path.{◌≡◌}
+use mathlib.Core.Path.{◌≡◌, ap, refl, sym, ◌∙◌}
 use native.Mathlib.Omega.{arith}
 use lib.ListN.{length, length-append}
 use Rattle.load.specs.declared.counts.Counts.{Counts}
@@ -13,8 +13,9 @@ use Rattle.loadfile.specs.Layout.{Contents}
 use Rattle.rules.specs.Counts.{none, summary}
 use Rattle.rules.specs.Load.{Load, load_of}
 use Rattle.rules.specs.Plan.{origin, plan, rows_from, run, Started, State, step}
+use Rattle.line.specs.declared.Page.{Page}
 use Rattle.line.specs.Pages.{Put, room}
-use Rattle.line.proofs.Pages.{put_whole}
+use Rattle.line.proofs.Pages.{put_rest, put_size, put_whole}
 use Rattle.lines.proofs.Short.{counts_short, refused_short, rows_short}
 use Rattle.listing.specs.Listing.{Makes, listing, listing_of, plan_lines}
 
@@ -41,6 +42,13 @@ listing_fits file = go (contents file) where
   go (refused r) = omega (arith, refused_short r)
   go (parsed l at) = plan_short file l.counts (table_words l.blocks)
 
--- so what is put on an empty page is all there
-pub all_there : (file more a : List ℕ) → listing file ≡ more → Put [] more a → Makes file a
-all_there file more a same p = rw same (put_whole more a p (rw (← same) (listing_fits file)))
+-- a page that has a listing ends within the room
+pub made_within : (file : List ℕ) (before then : Page) → Makes file before then → then.len ≤ room
+made_within file before then m = rw m.ends (listing_fits file)
+
+-- so what is put on a page that is begun anew is all there
+pub all_there : (file more : List ℕ) (before a : Page) → listing file ≡ more → Put (record before { len = 0 }) more a → Makes file before a
+all_there file more before a same p =
+    let begun = record before { len = 0 } in
+    let fits : length more ≤ room = rw (← same) (listing_fits file) in
+    record { ends = put_size begun more a p refl fits ∙ ap length (sym same); lists = put_whole begun more a p refl fits ∙ sym same; rest = put_rest begun more a p }

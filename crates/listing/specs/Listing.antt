@@ -1,5 +1,5 @@
 -- What the printing program prints of a load file: which lines, and in which order. Each line is defined, byte for byte, in `crates/lines/specs/Lines.antt`.
-use Rattle.std.specs.Prelude.{ℕ, List, ◌++◌, ◌≡◌}
+use Rattle.std.specs.Prelude.{ℕ, List, ◌++◌, ◌≡◌, drop, length}
 use Rattle.load.specs.declared.counts.Counts.{Counts}
 use Rattle.records.specs.Records.{Parsed, parsed, refused}
 use Rattle.body.specs.Body.{table_words}
@@ -8,6 +8,8 @@ use Rattle.loadfile.specs.Layout.{Contents}
 use Rattle.rules.specs.Counts.{none, summary}
 use Rattle.rules.specs.Load.{load_of}
 use Rattle.rules.specs.Plan.{plan}
+use Rattle.line.specs.declared.Page.{Page}
+use Rattle.line.specs.Pages.{bytes_of}
 use Rattle.lines.specs.Lines.{counts_line, refused_line, row_lines}
 
 -- First line: the six counts. Then one line a row. The program asks for the first 512 blocks.
@@ -24,6 +26,8 @@ listing_of file (parsed l at) = plan_lines file l.counts (table_words l.blocks)
 unfoldable pub listing : List ℕ → List ℕ
 listing file = listing_of file (contents file)
 
--- A page has the listing, and nothing else.
-abbrev pub Makes : List ℕ → List ℕ → Type 0
-Makes file page = page ≡ listing file
+-- A page has the listing and nothing else, and the room behind the listing is as it was.
+pub record Makes (file : List ℕ) (before then : Page) : Type 0 where
+  pub ends : then.len ≡ length (listing file)
+  pub lists : bytes_of then ≡ listing file
+  pub rest : drop then.len then.bytes ≡ drop then.len before.bytes

@@ -28,9 +28,9 @@ fn plan(file: &[u8], page: &mut Page) -> Result<(), Refusal>
     Ok(())
 }
 
-// Makes the listing on a page, which has nothing else then.
+// Makes the listing on a page, which has nothing else then. The room behind the listing stays as it was.
 pub fn make(file: &[u8], page: &mut Page)
-    ensures { Makes file.now page.new }
+    ensures { Makes file.now page.old page.new }
 {
     page.clear();
     if let Err(why) = plan(file, page) {

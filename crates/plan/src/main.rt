@@ -3,6 +3,7 @@
 
 ghost use Rattle.std.specs.Prelude.{OnOk, ◌≡◌};
 ghost use Rattle.std.specs.Io.KnownBytes.{Appends};
+ghost use Rattle.line.specs.Pages.{bytes_of};
 ghost use Rattle.listing.specs.Listing.{listing as Listing·listing};
 
 mod input;
@@ -13,7 +14,7 @@ use std::io::Write;
 
 // The one write. `file` is there for what is asked: that just its listing is written.
 fn write<W: Write>(to: &mut W, file: &[u8], page: &Page) -> io::Result<()>
-    requires { page.now ≡ Listing·listing file.now }
+    requires { bytes_of page.now ≡ Listing·listing file.now }
     ensures { OnOk result (Appends (W.contents to.old) (W.contents to.new) (Listing·listing file.now)) }
 {
     page.write(to)

@@ -5,7 +5,7 @@ use lib.ListN.{length}
 use Rattle.std.specs.Iterator.Adapters.{take_count, take_source}
 use Rattle.std.specs.Slice.Iter.{chunks_exact_rest, chunks_exact_size}
 use Rattle.rules.specs.Rows.{rows_in}
-use Rattle.line.specs.Pages.{page_with}
+use Rattle.line.specs.Pages.{put_on}
 use Rattle.lines.specs.Lines.{row_lines}
 use Rattle.lines.proofs.rows.Given as goal
 
@@ -16,5 +16,5 @@ invariant-loop-words l =
     record {
       in_rows : chunks_exact_size (take_source l.words-iterator) ≡ 15;
       room : 15 * left ≤ length words;
-      lines : page_with l.page (row_lines l.file l.stages (rows_in left words)) ≡ page_with l.initial.page (row_lines l.file l.stages (rows_in l.blocks l.table));
+      lines : put_on l.page (row_lines l.file l.stages (rows_in left words)) ≡ put_on l.initial.page (row_lines l.file l.stages (rows_in l.blocks l.table));
     }

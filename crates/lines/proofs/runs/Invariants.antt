@@ -5,10 +5,10 @@ use lib.ListN.{take}
 use Rattle.std.specs.Iterator.Adapters.{take_count, take_source}
 use Rattle.std.specs.List.{flat_map}
 use Rattle.std.specs.Slice.Iter.{iter_rest}
-use Rattle.line.specs.Pages.{page_with}
+use Rattle.line.specs.Pages.{put_on}
 use Rattle.lines.specs.Lines.{runs, start_finish}
 use Rattle.lines.proofs.runs.Given as goal
 
 abbrev pub invariant-loop-span : goal.invariant-loop-span
 invariant-loop-span l =
-    page_with l.page (flat_map (start_finish true) (take (take_count l.span-iterator) (iter_rest (take_source l.span-iterator)))) ≡ page_with l.initial.page (runs l.stages l.fn.way)
+    put_on l.page (flat_map (start_finish true) (take (take_count l.span-iterator) (iter_rest (take_source l.span-iterator)))) ≡ put_on l.initial.page (runs l.stages l.fn.way)

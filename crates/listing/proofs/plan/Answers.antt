@@ -39,4 +39,4 @@ rows-requires c =
 pub returns-clause-lines : goal.returns-clause-lines
 returns-clause-lines c =
     let ready = read_listing refl c.read.ensures c.in_ok-counts.was in
-    rw ready.lines (plan_put (ready.accepted 7680 refl) (asked_of c.plan.ensures refl) c.in_ok-summary.was _ _ _ _ c.counts.ensures c.rows.ensures)
+    rw ready.lines (plan_put (ready.accepted 7680 refl) (asked_of c.plan.ensures refl) c.in_ok-summary.was c.args.file.now c.args.page.now _ _ c.counts.ensures c.rows.ensures)
