@@ -11,7 +11,7 @@ use Rattle.start.proofs.origin.origin.Goals as goal
 pub up_to-requires : goal.up_to-requires
 unfolding at_first listed
 up_to-requires c = record {
-  stands = rw (c.nothing.ensures, c.requires.list) (record {
+  stands = rw (c.nothing.ensures, c.new-tables.ensures) (record {
     arrived = omega arith;
     lists = record { apart = tt; below = tt };
     from = replicate most 0;
@@ -25,4 +25,4 @@ pub returns-clause-state : goal.returns-clause-state
 unfolding origin state at_first
 returns-clause-state c =
     let moved = c.up_to.ensures in
-    rw moved.mode (ap (state Idle) (rw (c.nothing.ensures, c.requires.list, c.requires.gate) at (moved.core (replicate most 0))))
+    rw moved.mode (ap (state Idle) (rw (c.nothing.ensures, c.new-tables.ensures) at (moved.core (replicate most 0))))
