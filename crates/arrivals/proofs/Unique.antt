@@ -11,7 +11,7 @@ use Rattle.arrivals.proofs.arrival.Reads as arrival
 use Rattle.arrivals.proofs.state.Tables.new.Reads as tables
 use Rattle.arrivals.proofs.up_to.Reads as up_to_lem
 
--- the code's planner, from the definition's mode and core and its queues
+-- the code's planner and tables as one, from the definition's mode and core and the queues
 abbrev planner_of : Mode → plan.Core → Queues → Planning
 planner_of m c queues = record {
   mode = m;

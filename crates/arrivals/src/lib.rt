@@ -1,5 +1,5 @@
 // Arrivals up to a tick: a flow joins the list when a block of its arrives and it is neither listed, held nor in its turn. Beside
-// them the planner's state.
+// them the planner's state and its tables.
 #![tactic(auto)]
 
 ghost use Rattle.std.specs.Prelude.{◌≡◌, ◌<◌};

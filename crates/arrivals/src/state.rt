@@ -18,8 +18,8 @@ pub struct Core {
     pub way: Way,
 }
 
-// It has no invariant: what a function asks of it holds where that is called, and would ask more of every other. A load is handed on
-// beside it, since it stays as it is.
+// The planner has no invariant: what a function asks of it holds where that is called, and would ask more of every other. A load is
+// handed on beside it, since a load stays as it is.
 #[derive(Clone, Copy, Debug, PartialEq, Eq)]
 pub struct Planner {
     pub mode: Mode,
@@ -29,7 +29,7 @@ pub struct Planner {
 // What the planner keeps of the flows: the list of those that wait, their queues, and for each its gate, the tick before which its
 // next turn does not start. They stand beside mode and core, and not in one struct with them: in a struct with arrays that are
 // indexed LLVM keeps all in memory, and a plan takes 1.2 times as long.
-#[derive(Debug, Drop)]
+#[derive(Clone, Copy, Debug, PartialEq, Eq)]
 pub struct Tables {
     pub list: Waiting,
     pub queues: Queues,

@@ -12,8 +12,8 @@ use std::io::Write;
 // Room for the listing of a load: 512 lines of at most 326 bytes, and the line of the counts.
 pub const ROOM: usize = 196_608;
 
-// The first `len` of the bytes are there, and behind them is room. Any bytes with any `len` are a page, so a caller may lend bytes of its
-// own, and go on behind any of them. A page whose `len` is beyond the room is full.
+// The first `len` of the bytes are there, and behind them is room. Any bytes with any `len` are a page, so a caller may make one of bytes
+// of its own, and go on behind any of them. A page whose `len` is beyond the room is full.
 #[derive(Clone, Copy, Debug, PartialEq, Eq)]
 pub struct Page {
     pub bytes: [u8; ROOM],
@@ -31,7 +31,7 @@ impl Page {
         }
     }
 
-    // How many bytes the page has.
+    // How many bytes the page has: the field may be beyond the room, this is not.
     pub fn len(&self) -> usize
         ensures value { result ≡ length (bytes_of self.now) }
         ensures within { result ≤ room }

@@ -12,14 +12,14 @@ use accept::accepted::Load;
 pub const NONE: u32 = 1024;
 
 // For each flow the place of its oldest block, and for each block the place of the next one of its flow. Any words are such queues.
-#[derive(Clone, Copy, Debug)]
+#[derive(Clone, Copy, Debug, PartialEq, Eq)]
 pub struct Queues {
     pub oldest: [u32; 64],
     pub next: [u32; 1024],
 }
 
 impl Queues {
-    // No block is linked.
+    // No block is linked. For a caller that asks for a flow's oldest block before a load is linked.
     #[tactic(auto, unfolding(crate::specs::Queues::unlinked))]
     pub fn new() -> Queues
         ensures { result ≡ unlinked }

@@ -12,7 +12,7 @@ const PLACES: usize = 64;
 // The entries lie one behind the other from the head's place on, and after place 63 comes place 0, so none ever moves. Beside the
 // places stand the head's and how many entries there are: two ends alone would not tell 64 entries from none. Any values of the
 // fields are a list, so a caller may keep them as words of its own.
-#[derive(Clone, Copy, Debug)]
+#[derive(Clone, Copy, Debug, PartialEq, Eq)]
 pub struct Waiting {
     pub places: [Entry; PLACES],
     pub head: usize,
