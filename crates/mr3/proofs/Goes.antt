@@ -166,6 +166,15 @@ module _ (c : Counts) (n : ℕ) (table : List ℕ) (fs₀ : List FlowRecord) (ws
             ends = rw (all, at, none_counted, turns, emptied) (record { answers = rw said refl; flows_left = rw said refl; rows_left = rw said refl });
           }
 
+  -- what a start asks of the planner, and of the counts and the tables that note it
+  pub record Ready (i : ℕ) (p : Planning) (t : Tally) (fs : List FlowRecord) (ws : List ℕ) : Type 0 where
+    pub accepted : Accepted L
+    pub steps : Steps L p
+    pub few_held : t.held ≤ i
+    pub few_ticks : t.ticks ≤ 100_000_000_000 * i
+    pub flows_room : c.flows ≤ length fs
+    pub row_room : 15 * i + 15 ≤ length ws
+
   -- ---- a start is made: the sums fit, and all goes on
   pub record On (i : ℕ) (p : Planning) (t : Tally) (fs : List FlowRecord) (ws : List ℕ) (start : Start) (p' : Planning) : Type 0 where
     pub flow : start.row.flow < length fs
@@ -185,9 +194,16 @@ module _ {c : Counts} {n : ℕ} {table : List ℕ} {fs₀ : List FlowRecord} {ws
   abbrev left : ℕ
   left = min n c.blocks - i
 
-  -- as long as one is left, the planner is ready for it
-  pub goes_ready : i < min n c.blocks → Steps (load_of c table) p
-  goes_ready more = record { from = g.from; follows = g.follows; starts = i; more = omega arith; reached = g.reached }
+  -- as long as one is left, all is ready for it
+  pub goes_ready : i < min n c.blocks → Ready c n table fs₀ ws₀ i p t fs ws
+  goes_ready more = record {
+    accepted = g.accepted;
+    steps = record { from = g.from; follows = g.follows; starts = i; more = omega arith; reached = g.reached };
+    few_held = g.few_held;
+    few_ticks = g.few_ticks;
+    flows_room = g.flows_room;
+    row_room = omega (arith, g.rows_room);
+  }
 
   -- there is a start for each that is left
   pub there_is_one : {P : Type 0} → i < min n c.blocks → (p' : Planning) → Answers (load_of c table) p None p' g.from (step (load_of c table) s) → P
@@ -199,22 +215,23 @@ module _ {c : Counts} {n : ℕ} {table : List ℕ} {fs₀ : List FlowRecord} {ws
   unfolding Answers latest recorded row_words way_words
   goes_on more {start} {p'} answers =
       let row = start.row in
+      let ready = goes_ready more in
       let L = load_of c table in
       let q : Started = record { row = row; then = state_of p' (past g.from row) } in
       let is : step L s ≡ some q = answers.0 in
       let timed : start.time ≡ dominant_time (block_at table row.block) = answers.1 in
       let within = (step_within L g.accepted i s q (reached_within L g.accepted g.reached) is).1 in
       let short = dominant_within (g.accepted.each row.block within.block) in
-      let room : 15 * i + 15 ≤ length ws = omega arith in
+      let room = ready.row_room in
       let at = step_row L s q is in
       let fewer : left - 1 ≡ min n c.blocks - (i + 1) = omega arith in
       let place : 15 * i + 15 ≡ 15 * (i + 1) = omega arith in
       let to_come : run L left s ≡ row ∷ run L (min n c.blocks - (i + 1)) q.then = rw fewer at (run_next L left s q (omega arith) is) in
       record {
-        flow = omega (arith, within.flow, g.flows_room);
+        flow = omega (arith, within.flow, ready.flows_room);
         fits = rw timed (row_fits table c.flows left p.core.turns fs row within.flow short g.records_room);
-        held = omega (arith, g.few_held, one_most (ltb 0 row.hold), g.accepted.blocks);
-        ticks = omega (arith, g.few_ticks, within.hold, g.accepted.blocks);
+        held = omega (arith, ready.few_held, one_most (ltb 0 row.hold), g.accepted.blocks);
+        ticks = omega (arith, ready.few_ticks, within.hold, g.accepted.blocks);
         goes =
             λ t' held ticks rest written.
             let sum = counted_on c.stages i p.core p'.core t t' row at.turn at.round at.way held ticks in

@@ -27,7 +27,7 @@ loop-i-init c =
 pub step-requires : goal.step-requires
 step-requires c =
     let lent = c.in_ok-load.ensures.lent in
-    rw (lent.0, lent.1) (record { steps = goes_ready c.loop-i.invariant (omega arith) })
+    rw (lent.0, lent.1) (record { steps = (goes_ready c.loop-i.invariant (omega arith)).steps })
 
 -- what is noted and counted of this start
 on : (c : In-Some) → On c.args.counts c.args.limit c.args.blocks.now c.args.flows.now c.args.rows.now c.loop-i.i (planning c.loop-i.planner c.loop-i.tables) c.loop-i.tally c.loop-i.flows c.loop-i.rows c.in-Some.start (planning c.step.new.planner c.step.new.tables)
