@@ -12,8 +12,8 @@ use Rattle.arrivals.proofs.state.Tables.new.Reads as tables
 use Rattle.arrivals.proofs.up_to.Reads as up_to_lem
 
 -- the code's planner and tables as one, from the definition's mode and core and the queues
-abbrev planner_of : Mode → plan.Core → Queues → Planning
-planner_of m c queues = record {
+abbrev planning_of : Mode → plan.Core → Queues → Planning
+planning_of m c queues = record {
   mode = m;
   core = record { clock = c.clock; next = c.line.next; round = c.round; turns = c.turns; way = c.way };
   list = c.line.wait;
@@ -23,9 +23,9 @@ planner_of m c queues = record {
 
 pub same_planner : (p q : Planning) (from : List ℕ) → p.mode ≡ q.mode → core_of p from ≡ core_of q from → p.queues ≡ q.queues → p ≡ q
 same_planner p q from modes cores queues =
-    ap (λ (m : Mode). planner_of m (core_of p from) p.queues) modes
-    ∙ ap (λ (c : plan.Core). planner_of q.mode c p.queues) cores
-    ∙ ap (planner_of q.mode (core_of q from)) queues
+    ap (λ (m : Mode). planning_of m (core_of p from) p.queues) modes
+    ∙ ap (λ (c : plan.Core). planning_of q.mode c p.queues) cores
+    ∙ ap (planning_of q.mode (core_of q from)) queues
 
 pub arrival_once : OneAnswer arrival.Post
 arrival_once κs a r r' s s' p q = p ∙ sym q

@@ -29,7 +29,7 @@ pub record Stands (L : Load) (m : Mode) (queues : Queues) (next : ℕ) (w : List
   pub passed : (f : ℕ) → get_or from f 0 ≤ next
   pub queue : Queue L (front m ++ w) (held m ++ w) from next
 
--- the same of a planner, which has mode, queues, next place and list
+-- the same of a planner with its tables, which have mode, queues, next place and list
 abbrev pub TellsOf : Planning → ℕ → Type 0
 TellsOf p f = Tells p.mode p.queues p.core.next p.list f
 

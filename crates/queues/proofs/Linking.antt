@@ -1,9 +1,10 @@
 -- Laws of the first block of a flow from a place on: the blocks are linked from the last to the first, and a block starts.
 use Prim.Native.Nat.{ℕ, ◌+◌, ◌≤◌, ◌<◌}
 use mathlib.Core.List.{List}
-use mathlib.Core.Path.{◌≡◌, sym, ◌∙◌}
+use mathlib.Core.Path.{◌≡◌, ap, sym, ◌∙◌}
 use native.Mathlib.Omega.{arith}
-use lib.ListN.{get_or, length, length-set, set}
+use lib.ListN.{get_or, length, length-replicate, length-set, replicate, set}
+use Rattle.std.proofs.lemmas.List.{get_or-replicate}
 use Rattle.rules.specs.Load.{block_at, Load}
 use Rattle.rules.specs.Within.{Accepted}
 use Rattle.rules.proofs.Unstarted.{set_either}
@@ -37,6 +38,14 @@ pub record LinkedFrom (table : List ℕ) (n i : ℕ) (queues : Queues) : Type 0 
   pub stored : (length queues.oldest ≡ most) × (length queues.next ≡ none)
   pub oldest : (f : ℕ) → f < most → First table n f i (oldest_in queues f)
   pub links : (b : ℕ) → i ≤ b → b < n → First table n (block_at table b).flow (b + 1) (link_in queues b)
+
+-- from the place past the last on none is, where each flow's oldest block is none
+pub none_linked : (table : List ℕ) (n : ℕ) (queues : Queues) → queues.oldest ≡ replicate most none → length queues.next ≡ none → n ≤ none → LinkedFrom table n n queues
+none_linked table n queues empty long few = record {
+  stored = (ap length empty ∙ length-replicate most none, long);
+  oldest = λ f h. rw (empty, get_or-replicate most f none 0 h) (first_none table n f none few);
+  links = λ b from below. absurd (omega arith);
+}
 
 -- so is the one before: its link is its flow's oldest block, and it is its flow's oldest then
 pub linked_more : (table : List ℕ) (n i g : ℕ) (queues : Queues) → i < none → g < most → g ≡ (block_at table i).flow → LinkedFrom table n (i + 1) queues

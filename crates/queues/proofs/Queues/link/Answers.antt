@@ -1,20 +1,13 @@
 -- `Queues::link` meets its contract: at each turn the blocks from the one reached on are linked.
 use Rattle.std.proofs.Common.{ap, ◌+◌, ◌-◌, ◌≡◌, arith, refl, rules}
 use Rattle.load.specs.declared.block.Block.{Block}
-use Rattle.std.proofs.lemmas.List.{get_or-replicate}
 use Rattle.rules.proofs.Blocks.{get_d_zeros}
-use Rattle.queues.specs.Queues.{most, none}
-use Rattle.queues.proofs.Linking.{first_none, flow_below, linked_more}
+use Rattle.queues.specs.Queues.{most}
+use Rattle.queues.proofs.Linking.{flow_below, linked_more, none_linked}
 use Rattle.queues.proofs.Queues.link.Goals as goal
 
 pub loop-place-init : goal.loop-place-init
-loop-place-init c =
-    let load = c.args.load.now in
-    record {
-      stored = (refl, search rules);
-      oldest = λ f h. rw (get_or-replicate most f none 0 h) (first_none _ _ _ _ load.accepted.blocks);
-      links = λ b from below. absurd (omega arith);
-    }
+loop-place-init c = none_linked _ _ _ refl (search rules) c.args.load.now.accepted.blocks
 
 pub bounds-self-flow : goal.bounds-self-flow
 bounds-self-flow c = rw c.block-flow.ensures (flow_below _ c.args.load.now.accepted _ (omega arith))
