@@ -154,10 +154,13 @@ module _ (b : Page) (xs : List ℕ) (a : Page) (p : Put b xs a) where
       let all : take (room - length (bytes_of b)) xs ≡ xs = take_all _ xs (omega (arith, length-take b.len b.bytes)) in
       ap (λ (q : Page). q.len) (p ∙ put_is b xs xs all) ∙ omega arith
 
--- What is put determines where it ends and each byte of the page.
-module _ (b : Page) (xs : List ℕ) (a a' : Page) (p : Put b xs a) (q : Put b xs a') where
-  pub put_page_once : a ≡ a'
-  put_page_once = p ∙ sym q
+-- What is put determines where it ends and each byte of the page; and by the bytes before alone the bytes then, whatever the room holds.
+module _ (b b' : Page) (xs xs' : List ℕ) (a a' : Page) (same : xs ≡ xs') (p : Put b xs a) (q : Put b' xs' a') where
+  pub put_page_once : (b ≡ b' → a ≡ a') × (bytes_of b ≡ bytes_of b' → bytes_of a ≡ bytes_of a')
+  put_page_once = (
+    λ e. p ∙ rw (e, same) refl ∙ sym q,
+    λ e. ap bytes_of p ∙ put_bytes b xs ∙ rw (e, same) refl ∙ sym (put_bytes b' xs') ∙ sym (ap bytes_of q),
+  )
 
-  pub put_end_once : a.len ≡ a'.len
-  put_end_once = ap (λ (page : Page). page.len) put_page_once
+  pub put_end_once : (b ≡ b' → a.len ≡ a'.len) × (bytes_of b ≡ bytes_of b' → length (bytes_of a) ≡ length (bytes_of a'))
+  put_end_once = (λ e. ap (λ (page : Page). page.len) (put_page_once.0 e), λ e. ap length (put_page_once.1 e))

@@ -5,14 +5,18 @@ use mathlib.Core.List.{List, []}
 use mathlib.Core.Option.{Option as OptionOf, none, some}
 use mathlib.Core.Path.{◌≡◌, refl, sym, ap, ◌∙◌}
 use Rattle.std.specs.Prelude.{None, Option, Some}
-use Rattle.load.proofs.Once.{OneAnswer, OneAnswerWhere, OneExit, OneExitWhere}
+use Rattle.std.proofs.Math.Path.{subst}
 use Rattle.dominant.specs.Dominant.{dominant_time}
 use Rattle.rules.specs.declared.entry.Entry.{Entry}
 use Rattle.rules.specs.Load.{block_at, Load}
+use Rattle.rules.specs.Plan as plan
 use Rattle.rules.specs.Plan.{Started, State}
 use Rattle.waiting.specs.Entries.{entries_of}
+use Rattle.waiting.proofs.Alike.{OneAnswerOf, OneAnswerOfWhere, OneExitOf, OneExitOfWhere}
+use Rattle.accept.specs.Loads.{the_load}
 use Rattle.arrivals.specs.declared.state.Planner.{Planner}
 use Rattle.arrivals.specs.State.{Planning, planning, state_of}
+use Rattle.queues.specs.Queues.{Follows}
 use Rattle.start.specs.declared.step.Start.{Start}
 use Rattle.start.specs.Next.{Answers, past}
 use Rattle.start.proofs.origin.origin.Reads as origin
@@ -48,17 +52,25 @@ left_by L before (Some s) (Some s') p p' from o a b is is' =
 planner_of : State → Planner
 planner_of s = record { mode = s.mode; core = record { clock = s.core.clock; next = s.core.line.next; round = s.core.round; turns = s.core.turns; way = s.core.way } }
 
-pub origin_once : OneAnswer origin.Post
+pub origin_once : OneAnswerOf origin.Post {S = Load} (λ κs a. the_load a.0.now)
 unfolding planner_of
-origin_once κs a r r' s s' p q = ap planner_of (p.0 ∙ sym q.0)
+origin_once κs a a' e r r' s s' p q = ap planner_of (p.0 ∙ ap plan.origin e ∙ sym q.0)
 
-pub origin_leaves_once : OneExit origin.Post {A = List Entry × List ℕ} (λ κs s. (entries_of s.1.0.now.list, s.1.0.now.gate))
-origin_leaves_once κs a r r' s s' p q = ap (λ (x : State). (x.core.line.wait, x.core.gate)) (p.0 ∙ sym q.0)
+pub origin_leaves_once : OneExitOf origin.Post {S = Load} (λ κs a. the_load a.0.now) {A = List Entry × List ℕ} (λ κs s. (entries_of s.1.0.now.list, s.1.0.now.gate))
+origin_leaves_once κs a a' e r r' s s' p q = ap (λ (x : State). (x.core.line.wait, x.core.gate)) (p.0 ∙ ap plan.origin e ∙ sym q.0)
 
-pub step_once : OneAnswerWhere step.Post step.Pre
-step_once κs a k r r' s s' p q =
+-- what a start says of its answer and of planner and tables then, by the load, planner and tables as it is called
+abbrev Stepped : Option Start → Planning → Load × Planning → Type 0
+Stepped n then x = (from : List ℕ) → Follows x.0 from x.1.queues → Answers x.0 x.1 n then from (plan.step x.0 (state_of x.1 from))
+
+pub step_once : OneAnswerOfWhere step.Post {S = Load × Planning} (λ κs a. (the_load a.0.now, planning a.1.0.now a.1.1.0.now)) step.Pre
+step_once κs a a' e k r r' s s' p q' =
+    let q = subst (Stepped r' (planning s'.1.0.now s'.1.1.0.now)) (sym e) q' in
     answer_of_lem _ _ r _ _ _ (p k.from k.follows) ∙ sym (answer_of_lem _ _ r' _ _ _ (q k.from k.follows))
 
 -- where there is a start
-pub step_leaves_once : OneExitWhere (λ κs a r s. step.Post κs a r s × (r ≡ None → ⊥)) step.Pre {A = State} (λ κs s. state_of (planning s.1.0.now s.1.1.0.now) [])
-step_leaves_once κs a k r r' s s' p q = left_by _ _ r r' _ _ _ _ (p.0 k.from k.follows) (q.0 k.from k.follows) p.1 q.1
+pub step_leaves_once : OneExitOfWhere (λ κs a r s. step.Post κs a r s × (r ≡ None → ⊥)) {S = Load × Planning} (λ κs a. (the_load a.0.now, planning a.1.0.now a.1.1.0.now)) step.Pre
+    {A = State} (λ κs s. state_of (planning s.1.0.now s.1.1.0.now) [])
+step_leaves_once κs a a' e k r r' s s' p q' =
+    let q = subst (Stepped r' (planning s'.1.0.now s'.1.1.0.now)) (sym e) q'.0 in
+    left_by _ _ r r' _ _ _ _ (p.0 k.from k.follows) (q k.from k.follows) p.1 q'.1

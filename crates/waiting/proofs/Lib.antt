@@ -1,3 +1,4 @@
+pub mod Alike
 pub mod Examples
 pub mod Heads
 pub mod Places
