@@ -1,4 +1,5 @@
--- Each call determines its answer, and the planner that it leaves: the clock's move by the state that planner and tables stand for alone.
+-- Each call determines its answer, and the planner and tables that it leaves: the clock's move by the load, the tick, and what planner and
+-- tables are as one.
 use Rattle.std.proofs.Common.{◌≡◌, ℕ, List, [], refl, sym, ap, ◌∙◌}
 use Rattle.std.proofs.Math.Path.{subst}
 use Rattle.load.proofs.Once.{OneAnswer, OneValue}

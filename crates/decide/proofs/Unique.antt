@@ -1,4 +1,4 @@
--- The call determines the planner that it leaves, by the load and the state that planner and tables stand for alone.
+-- The call determines the planner and tables that it leaves, by the load and what planner and tables are as one.
 use Rattle.std.proofs.Common.{List, sym, ap, ◌∙◌}
 use Rattle.std.proofs.Math.Path.{subst}
 use Rattle.rules.specs.declared.entry.Entry.{Entry}

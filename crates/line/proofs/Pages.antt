@@ -154,7 +154,8 @@ module _ (b : Page) (xs : List ℕ) (a : Page) (p : Put b xs a) where
       let all : take (room - length (bytes_of b)) xs ≡ xs = take_all _ xs (omega (arith, length-take b.len b.bytes)) in
       ap (λ (q : Page). q.len) (p ∙ put_is b xs xs all) ∙ omega arith
 
--- What is put determines where it ends and each byte of the page; and by the bytes before alone the bytes then, whatever the room holds.
+-- What is put determines where it ends and each byte of the page. The bytes then go by what is put and the bytes before, whatever the room
+-- holds.
 module _ (b b' : Page) (xs xs' : List ℕ) (a a' : Page) (same : xs ≡ xs') (p : Put b xs a) (q : Put b' xs' a') where
   pub put_page_once : (b ≡ b' → a ≡ a') × (bytes_of b ≡ bytes_of b' → bytes_of a ≡ bytes_of a')
   put_page_once = (

@@ -1,5 +1,5 @@
 -- Each public call of this crate determines the whole page, each byte of its room and where it ends: its contract says what is put.
--- And the bytes before alone determine the bytes then.
+-- The bytes then go by what is put and the bytes before, whatever the room holds.
 use Prim.Native.Nat.{ℕ}
 use mathlib.Core.List.{List}
 use mathlib.Core.Path.{◌≡◌}

@@ -1,6 +1,6 @@
--- The listing call determines the whole page: the listing, and behind it what stood there.
+-- The listing call determines the whole page, by the listing and the page before: the listing, and behind it what stood there.
 use mathlib.Core.List.{List, ◌++◌}
-use mathlib.Core.Path.{◌≡◌, refl, sym, ap, ◌∙◌}
+use mathlib.Core.Path.{◌≡◌, refl, sym, ◌∙◌}
 use Prim.Native.Nat.{ℕ}
 use lib.ListN.{drop, length, take-append-drop}
 use Rattle.line.specs.declared.Page.{Page}
@@ -13,8 +13,8 @@ made : (file : List ℕ) (before then : Page) → Makes file before then → the
 made file before then m =
     same_page then.bytes _ then.len _ (sym (take-append-drop then.len then.bytes) ∙ rw (m.lists, m.rest, m.ends) refl) m.ends
 
-pub make_once : OnePage make.Post (λ κs a. a.1.0.now) (λ κs a. a.0.now) (λ κs s. s.1.0.now)
+pub make_once : OnePage make.Post (λ κs a. a.1.0.now) (λ κs a. listing a.0.now) (λ κs s. s.1.0.now)
 make_once = record {
   whole = λ κs a a' same e s s' p q. made _ _ _ p ∙ rw (same, e) refl ∙ sym (made _ _ _ q);
-  bytes = λ κs a a' same e s s' p q. p.lists ∙ ap listing same ∙ sym q.lists;
+  bytes = λ κs a a' same e s s' p q. p.lists ∙ same ∙ sym q.lists;
 }

@@ -1,5 +1,6 @@
--- Each call determines its answer and the planner that it leaves: they are those of the definition's start, at the places that the
--- queues follow. Of the queues, which no rule of the plan sees, `Follows` says what they are.
+-- Each call determines its answer, and the planner and tables that it leaves: they are those of the definition's start, at the places that
+-- the queues follow. Of the queues, which no rule of the plan sees, `Follows` says what they are. What `origin` leaves goes by the load
+-- alone, whatever tables it is lent; what `step` leaves, by the load and what planner and tables are as one.
 use Prim.Native.Nat.{ℕ}
 use mathlib.Core.List.{List, []}
 use mathlib.Core.Option.{Option as OptionOf, none, some}

@@ -1,6 +1,6 @@
--- What it means that a contract determines its answer by what it reads of its arguments: of a list the entries, wherever they lie, and of
--- a planner with its tables the state that they stand for. Any two results that it allows are equal where `of` reads the same. For the
--- same arguments that is `OneAnswer` and `OneExit` (`crates/load/proofs/Once.antt`), so this says more.
+-- What it means that a contract determines its answer by what it reads of its arguments: of a list the entries, wherever they lie, and so
+-- of a planner with its tables what they are as one. Any two results that it allows are equal where `of` reads the same. For the same
+-- arguments that is `OneAnswer` and `OneExit` (`crates/load/proofs/Once.antt`), so this says more.
 use mathlib.Core.Path.{◌≡◌}
 
 module _ {K : Type 0} {Args Result Exit : K → Type 0} (post : (κs : K) → Args κs → Result κs → Exit κs → Type 0) {S : Type 0} (of : (κs : K) → Args κs → S) where

@@ -1,4 +1,4 @@
--- Each call determines its answer and the list that it leaves, by the entries of the list that it is lent alone.
+-- Each call determines its answer and the list that it leaves. Of the list that it is lent the entries alone count, and not their places.
 use mathlib.Core.List.{List, ◌∷◌, [], ◌++◌}
 use mathlib.Core.Path.{sym, ap, ◌∙◌}
 use lib.ListN.{length}
