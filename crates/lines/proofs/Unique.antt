@@ -22,7 +22,7 @@ module _ {K : Type 0} {Args Exit : K → Type 0} (post : (κs : K) → Args κs 
         → bytes_of (page κs s) ≡ bytes_of (page κs s')
 
   -- where the text is what is put
-  pub one_page : ((κs : K) (a : Args κs) (s : Exit κs) → post κs a tt s → Put (before κs a) (text κs a) (page κs s)) → OnePage
+  one_page : ((κs : K) (a : Args κs) (s : Exit κs) → post κs a tt s → Put (before κs a) (text κs a) (page κs s)) → OnePage
   one_page puts = record {
     whole = λ κs a a' same e s s' p q. (put_page_once _ _ _ _ _ _ same (puts κs a s p) (puts κs a' s' q)).0 e;
     bytes = λ κs a a' same e s s' p q. (put_page_once _ _ _ _ _ _ same (puts κs a s p) (puts κs a' s' q)).1 e;

@@ -1,4 +1,4 @@
--- The listing call determines the whole page, by the listing and the page before: the listing, and behind it what stood there.
+-- The listing call determines the whole page: the listing, and behind it what stood there.
 use mathlib.Core.List.{List, ◌++◌}
 use mathlib.Core.Path.{◌≡◌, refl, sym, ◌∙◌}
 use Prim.Native.Nat.{ℕ}
